@@ -1,0 +1,5 @@
+pub mod Faults
+pub mod Layouts
+pub mod Picks
+pub mod Trees
+pub mod Ways
