@@ -1,0 +1,5 @@
+pub mod Lowest
+pub mod Pigeons
+pub mod Reaching
+pub mod Trees
+pub mod Ways
