@@ -24,6 +24,10 @@ module _ (f : ℕ → Option ℕ) where
   lead-on u v w arrow (inl here) = inr ([], arrow ∙ ap Some here)
   lead-on u v w arrow (inr (xs, way)) = inr (v ∷ xs, (arrow, way))
 
+  pub lead-along : (u : ℕ) (xs : List ℕ) (v w : ℕ) → Way f u xs v → Leads f v w → Leads f u w
+  lead-along u [] v w arrow rest = lead-on u v w arrow rest
+  lead-along u (x ∷ xs) v w (arrow, way) rest = lead-on u x w arrow (lead-along x xs v w way rest)
+
   -- what comes after the first arrow
   pub lead-off : (u v w : ℕ) → (u ≡ w → ⊥) → f u ≡ Some v → Leads f u w → Leads f v w
   lead-off u v w apart arrow (inl here) = absurd (apart here)
