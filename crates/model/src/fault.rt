@@ -43,9 +43,12 @@ impl DrawFault {
         Layer::Draw
     }
 
+    // The vertex or the index that the fault speaks of, 0 where it speaks of none.
     pub fn place(&self) -> usize
         ensures { λ r. ⌜ r ≡ place-of (now (self .entry)) ⌝ }
     {
-        0
+        match self {
+            DrawFault::NoMemory | DrawFault::Limit | DrawFault::Link | DrawFault::Root | DrawFault::Short => 0,
+        }
     }
 }
