@@ -1,5 +1,7 @@
+pub mod Cycles
 pub mod Lowest
 pub mod Pigeons
+pub mod Popping
 pub mod Reaching
 pub mod Trees
 pub mod Ways

@@ -1,3 +1,4 @@
+pub mod Cycles
 pub mod Faults
 pub mod Layouts
 pub mod Picks
