@@ -13,8 +13,8 @@ use Rattle.std.specs.declared.option.Option.{Option}
 use Rattle.std.specs.declared.option.Option.the-variants.{Some, None}
 use Rattle.model.specs.Ways.{Way}
 use Rattle.model.specs.Cycles.{Arrows, Heights, seen, among, Cycle, Coloured, coloured, raise, Pops, Final}
-use Rattle.model.proofs.Ways.{same-some, none-some}
-use Rattle.model.proofs.Pigeons.{Fresh}
+use Rattle.model.specs.Distinct.{Fresh, Distinct}
+use Rattle.model.proofs.Ways.{same-some, way-once, way-distinct}
 
 -- ---- what is among a list
 
@@ -71,14 +71,13 @@ module _ (f : ℕ → Option ℕ) where
       let (ys, way) = way-rest v vs v x (a .0) on-a in
       cycle-low w ws v b (cycle-stays (w ∷ ws) x ys v b on-b way)
 
-  -- the way to v that meets it first at the end is one
-  way-once : (u : ℕ) (xs ys : List ℕ) (v : ℕ) → Fresh v xs → Fresh v ys → Way f u xs v → Way f u ys v → xs ≡ ys
-  way-once u [] [] v a b p q = refl
-  way-once u [] (y ∷ ys) v a (b, bs) p (q, way) = absurd (b (same-some (f u) v y p q))
-  way-once u (x ∷ xs) [] v (a, more) b (p, way) q = absurd (a (same-some (f u) v x q p))
-  way-once u (x ∷ xs) (y ∷ ys) v (a, more) (b, bs) (p, way) (q, way2) =
-      let e : y ≡ x = same-some (f u) y x q p in
-      ap (λ l. x ∷ l) (way-once x xs ys v more bs way (subst (λ z. Way f z ys v) e way2)) ∙ ap (λ z. z ∷ ys) (sym e)
+  above-fresh : (t : ℕ) (xs : List ℕ) → All (λ y. t < y) xs → Fresh t xs
+  above-fresh t xs low = all-weaker (λ y. t < y) (λ y. t ≡ y → ⊥) (λ y lt e. omega arith) xs low
+
+  -- a cycle meets no vertex twice
+  pub cycle-distinct : (c : List ℕ) → Cycle f c → Distinct c
+  cycle-distinct [] cyc = absurd cyc
+  cycle-distinct (v ∷ vs) (way, low) = way-distinct f v vs v (above-fresh v vs low) way
 
   -- two cycles with a vertex in common are the same
   pub cycles-meet : (c d : List ℕ) (x : ℕ) → Cycle f c → Cycle f d → among x c ≡ true → among x d ≡ true → c ≡ d
@@ -88,10 +87,7 @@ module _ (f : ℕ → Option ℕ) where
       let up : w ≤ v = cycle-lowest-on v vs w ws x a b on-a on-b in
       let down : v ≤ w = cycle-lowest-on w ws v vs x b a on-b on-a in
       let e : w ≡ v = omega arith in
-      ap (λ l. v ∷ l) (way-once v vs ws v (above v vs (a .1)) (above v ws (subst (λ t. All (λ y. t < y) ws) e (b .1))) (a .0) (subst (λ t. Way f t ws t) e (b .0))) ∙ ap (λ t. t ∷ ws) (sym e)
-    where
-      above : (t : ℕ) (xs : List ℕ) → All (λ y. t < y) xs → Fresh t xs
-      above t xs low = all-weaker (λ y. t < y) (λ y. t ≡ y → ⊥) (λ y lt e. omega arith) xs low
+      ap (λ l. v ∷ l) (way-once f v vs ws v (above-fresh v vs (a .1)) (above-fresh v ws (subst (λ t. All (λ y. t < y) ws) e (b .1))) (a .0) (subst (λ t. Way f t ws t) e (b .0))) ∙ ap (λ t. t ∷ ws) (sym e)
 
 -- ---- cycles that are apart
 

@@ -1,4 +1,5 @@
 pub mod Cycles
+pub mod Ends
 pub mod Lowest
 pub mod Pigeons
 pub mod Popping

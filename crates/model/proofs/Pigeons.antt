@@ -8,15 +8,8 @@ use lib.Dec.{eqb}
 use lib.ListN.{length}
 use Rattle.std.specs.shelf.Lists.{All, kept-by}
 use Rattle.std.proofs.shelf.Elements.{all-kept-by}
+use Rattle.model.specs.Distinct.{Fresh, Distinct}
 use Rattle.std.proofs.shelf.Tests.{eqb-true, eqb-false}
-
--- x is none of xs
-abbrev pub Fresh : ℕ → List ℕ → Type 0
-Fresh x xs = All (λ y. x ≡ y → ⊥) xs
-
-abbrev pub Distinct : List ℕ → Type 0
-Distinct [] = Unit {0}
-Distinct (x ∷ xs) = Fresh x xs × Distinct xs
 
 abbrev without : ℕ → List ℕ → List ℕ
 without m xs = kept-by (λ x. not (eqb x m)) xs

@@ -13,8 +13,8 @@ use Rattle.std.proofs.shelf.Tests.{eqb-true, eq-eqb, or-cases, or-left, or-righ
 use Rattle.model.specs.Picks.{passes}
 use Rattle.model.specs.Ways.{Way, Leads}
 use Rattle.model.specs.Trees.{comes-to}
-use Rattle.model.proofs.Pigeons.{Distinct, pigeons}
-use Rattle.model.proofs.Ways.{lead-on, way-all, way-distinct}
+use Rattle.model.proofs.Pigeons.{pigeons}
+use Rattle.model.proofs.Ways.{lead-on, way-all, way-distinct, way-fresh}
 
 module _ (f : ℕ → Option ℕ) (w : ℕ) where
   comes-here : (k v : ℕ) → v ≡ w → comes-to f w k v ≡ true
@@ -43,5 +43,5 @@ module _ (f : ℕ → Option ℕ) (w : ℕ) where
   pub comes : (n : ℕ) → ((u v : ℕ) → f u ≡ Some v → v < n) → f w ≡ None → (v : ℕ) → v < n → Leads f v w → comes-to f w n v ≡ true
   comes n below ends v in-plan (inl here) = comes-here n v here
   comes n below ends v in-plan (inr (xs, way)) =
-      let few : length (v ∷ xs) ≤ n = pigeons n (v ∷ xs) (in-plan, way-all f (λ x. x < n) below v xs w way) (way-distinct f w ends v xs way) in
+      let few : length (v ∷ xs) ≤ n = pigeons n (v ∷ xs) (in-plan, way-all f (λ x. x < n) below v xs w way) (way-distinct f v xs w (way-fresh f w ends v xs way) way) in
       comes-along n v xs (omega arith) way

@@ -10,7 +10,7 @@ use Rattle.std.proofs.shelf.Elements.{all-weaker}
 use Rattle.std.specs.declared.option.Option.{Option}
 use Rattle.std.specs.declared.option.Option.the-variants.{Some, None}
 use Rattle.model.specs.Ways.{Way, Leads}
-use Rattle.model.proofs.Pigeons.{Fresh, Distinct, pigeons}
+use Rattle.model.specs.Distinct.{Fresh, Distinct}
 
 pub none-some : {A : Type 0} (o : Option A) (x : A) → o ≡ None → o ≡ Some x → ⊥
 none-some o x none some = let z : _≡_ {A = ℕ} 0 1 = cc in omega arith
@@ -53,39 +53,48 @@ module _ (f : ℕ → Option ℕ) where
   way-all P leads u [] w way = tt
   way-all P leads u (x ∷ xs) w (first, way) = (leads u x first, way-all P leads x xs w way)
 
+  -- the way to v that meets it at its end alone is one
+  pub way-once : (u : ℕ) (xs ys : List ℕ) (v : ℕ) → Fresh v xs → Fresh v ys → Way f u xs v → Way f u ys v → xs ≡ ys
+  way-once u [] [] v a b p q = refl
+  way-once u [] (y ∷ ys) v a (b, fresh) p (q, way) = absurd (b (same-some (f u) v y p q))
+  way-once u (x ∷ xs) [] v (a, fresh) b (p, way) q = absurd (a (same-some (f u) v x q p))
+  way-once u (x ∷ xs) (y ∷ ys) v (a, fresh) (b, fresh2) (p, way) (q, way2) =
+      let e : y ≡ x = same-some (f u) y x q p in
+      ap (λ l. x ∷ l) (way-once x xs ys v fresh fresh2 way (subst (λ z. Way f z ys v) e way2)) ∙ ap (λ z. z ∷ ys) (sym e)
+
+  -- from each vertex of such a way a shorter one leads to its end
+  shorter : (u : ℕ) (xs : List ℕ) (v : ℕ) → Fresh v xs → Way f u xs v → All (λ y. (ys : List ℕ) × (length ys < length xs) × Fresh v ys × Way f y ys v) xs
+  shorter u [] v fresh way = tt
+  shorter u (x ∷ xs) v (apart, fresh) (first, way) = (
+    (xs, omega arith, fresh, way),
+    all-weaker _ _ (λ y (ys, less, clear, rest). (ys, omega arith, clear, rest)) xs (shorter x xs v fresh way),
+  )
+
+  -- so none of its vertices comes again
+  again : (u : ℕ) (xs : List ℕ) (v : ℕ) → Fresh v xs → Way f u xs v → Fresh u xs
+  again u xs v fresh way = all-weaker (λ y. (ys : List ℕ) × (length ys < length xs) × Fresh v ys × Way f y ys v) (λ y. u ≡ y → ⊥)
+    (λ y (ys, less, clear, rest) same. let e : xs ≡ ys = way-once u xs ys v fresh clear way (subst (λ z. Way f z ys v) (sym same) rest) in omega (arith, ap length e))
+    xs (shorter u xs v fresh way)
+
+  -- a way that meets its end at its end alone meets no vertex twice
+  pub way-distinct : (u : ℕ) (xs : List ℕ) (v : ℕ) → Fresh v xs → Way f u xs v → Distinct (u ∷ xs)
+  way-distinct u [] v fresh way = (tt, tt)
+  way-distinct u (x ∷ xs) v (apart, fresh) (first, way) = (again u (x ∷ xs) v (apart, fresh) (first, way), way-distinct x xs v fresh way)
+
   -- w has no arrow: a way to it is at its end there
   module _ (w : ℕ) (ends : f w ≡ None) where
     no-way : (xs : List ℕ) → Way f w xs w → ⊥
     no-way [] way = none-some (f w) w ends way
     no-way (x ∷ xs) (first, way) = none-some (f w) x ends first
 
-    way-length : (u : ℕ) (xs ys : List ℕ) → Way f u xs w → Way f u ys w → length xs ≡ length ys
-    way-length u [] [] p q = refl
-    way-length u [] (y ∷ ys) p (q, way) = absurd (no-way ys (subst (λ z. Way f z ys w) (same-some (f u) y w q p) way))
-    way-length u (x ∷ xs) [] (p, way) q = absurd (no-way xs (subst (λ z. Way f z xs w) (same-some (f u) x w p q) way))
-    way-length u (x ∷ xs) (y ∷ ys) (p, way) (q, way2) = ap suc (way-length x xs ys way (subst (λ z. Way f z ys w) (same-some (f u) y x q p) way2))
-
-    -- from each vertex of a way a shorter one leads to its end
-    shorter : (u : ℕ) (xs : List ℕ) → Way f u xs w → All (λ y. (ys : List ℕ) × (length ys < length xs) × Way f y ys w) xs
-    shorter u [] way = tt
-    shorter u (x ∷ xs) (first, way) = (
-      (xs, omega arith, way),
-      all-weaker _ _ (λ y (ys, less, rest). (ys, omega arith, rest)) xs (shorter x xs way),
-    )
-
-    -- so it meets no vertex twice
-    pub way-distinct : (u : ℕ) (xs : List ℕ) → Way f u xs w → Distinct (u ∷ xs)
-    way-distinct u [] way = (tt, tt)
-    way-distinct u (x ∷ xs) (first, way) = (
-      all-weaker (λ y. (ys : List ℕ) × (length ys < length (x ∷ xs)) × Way f y ys w) (λ y. u ≡ y → ⊥)
-      (λ y (ys, less, rest) same. let long : length (x ∷ xs) ≡ length ys = way-length u (x ∷ xs) ys (first, way) (subst (λ z. Way f z ys w) (sym same) rest) in omega arith)
-      (x ∷ xs) (shorter u (x ∷ xs) (first, way)),
-      way-distinct x xs way,
-    )
+    pub way-fresh : (u : ℕ) (xs : List ℕ) → Way f u xs w → Fresh w xs
+    way-fresh u [] way = tt
+    way-fresh u (x ∷ xs) (first, way) = (λ same. no-way xs (subst (λ z. Way f z xs w) (sym same) way), way-fresh x xs way)
 
     -- from a vertex on a loop no way leads to it
     pub no-loop : (u : ℕ) (xs : List ℕ) → Way f u xs u → Leads f u w → ⊥
     no-loop u xs loop (inl here) = no-way xs (subst (λ z. Way f z xs z) here loop)
     no-loop u xs loop (inr (ys, way)) =
-        let same : length ys ≡ length (xs ++ u ∷ ys) = way-length u ys (xs ++ u ∷ ys) way (way-join u xs u ys w loop way) in
-        omega (arith, same, length-append xs (u ∷ ys))
+        let twice = way-join u xs u ys w loop way in
+        let same : ys ≡ xs ++ u ∷ ys = way-once u ys (xs ++ u ∷ ys) w (way-fresh u ys way) (way-fresh u (xs ++ u ∷ ys) twice) way twice in
+        omega (arith, ap length same, length-append xs (u ∷ ys))

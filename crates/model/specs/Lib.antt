@@ -1,4 +1,6 @@
 pub mod Cycles
+pub mod Distinct
+pub mod Ends
 pub mod Faults
 pub mod Layouts
 pub mod Picks

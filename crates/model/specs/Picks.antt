@@ -15,7 +15,11 @@ abbrev pub passes : {A : Type 0} → Option A → (A → Bool) → Bool
 passes None t = Bool.false
 passes (Some x) t = t x
 
+-- the answer at the lowest number below n that has one
+abbrev pub first : {A : Type 0} → (ℕ → Option A) → ℕ → Option A
+first g zero = None
+first g (suc n) = orOther (first g n) (g n)
+
 -- the lowest number below n that passes the test
 abbrev pub lowest : (ℕ → Bool) → ℕ → Option ℕ
-lowest test zero = None
-lowest test (suc n) = orOther (lowest test n) (cond (test n) (Some n) None)
+lowest test n = first (λ v. cond (test v) (Some v) None) n

@@ -1,0 +1,12 @@
+-- Lists in which nothing stands twice. Assumes nothing.
+use mathlib.Core.Path.{_≡_}
+use mathlib.Core.List.{List, [], _∷_}
+use Rattle.std.specs.shelf.Lists.{All}
+
+-- x is none of xs
+abbrev pub Fresh : {X : Type 0} → X → List X → Type 0
+Fresh x xs = All (λ y. x ≡ y → ⊥) xs
+
+abbrev pub Distinct : {X : Type 0} → List X → Type 0
+Distinct [] = Unit {0}
+Distinct (x ∷ xs) = Fresh x xs × Distinct xs
