@@ -1,0 +1,5 @@
+pub mod Answers
+pub mod Completes
+pub mod Limits
+pub mod Others
+pub mod Soundness
