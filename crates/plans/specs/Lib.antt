@@ -1,5 +1,9 @@
 pub mod Answers
+pub mod Cablings
 pub mod Completes
+pub mod Leading
 pub mod Limits
 pub mod Others
 pub mod Soundness
+pub mod Spans
+pub mod Tables

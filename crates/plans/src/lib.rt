@@ -2,3 +2,4 @@
 
 pub mod complete;
 mod limits;
+pub mod table;
