@@ -20,6 +20,10 @@ pub record Cabling : Type 0 where
   pub root : ℕ
   pub links : List Link
 
+-- nothing told yet
+abbrev pub unlinked : ℕ → ℕ → Cabling
+unlinked n r = record { size = n; root = r; links = [] }
+
 -- where the links that start at v lead, in their order
 abbrev pub leads-from : List Link → ℕ → List ℕ
 leads-from links v = map (λ l. l .to) (kept-by (λ l. eqb (l .from) v) links)
