@@ -47,8 +47,8 @@ nth-others n v i there =
     let within : v < n = others-within n v i there in
     let less : i < n - 1 = omega (arith, others-length n v within) in
     let read : getD (others n v) i 0 ≡ cond (ltb i v) i (i + 1) =
-        ⊎-elim
-        (λ low. below-v n v i within low ∙ sym (cond-true (ltb i v) i (i + 1) (lt-ltb i v low)))
-        (λ high. above-v n v i within high less ∙ sym (cond-false (ltb i v) i (i + 1) (le-ltb i v high)))
-        (cases-lt i v) in
+    ⊎-elim
+    (λ low. below-v n v i within low ∙ sym (cond-true (ltb i v) i (i + 1) (lt-ltb i v low)))
+    (λ high. above-v n v i within high less ∙ sym (cond-false (ltb i v) i (i + 1) (le-ltb i v high)))
+    (cases-lt i v) in
     nth-getD (others n v) i 0 there ∙ ap (λ w. Some w) read

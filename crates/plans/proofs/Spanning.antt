@@ -26,14 +26,14 @@ pub lies-of : (t : Table) (v : ℕ) (s : Span) → s ≡ span-at (vec-items (t .
 lies-of t v s its =
     let links = vec-items (t .links) in
     let at : Lies links v (span-at (vec-items (t .spans)) v) =
-        ⊎-elim (t .lie v) (λ past. subst (λ (x : Span). Lies links v x) (sym (span-past t v past)) (omega arith)) (cases-lt v (t .size)) in
+    ⊎-elim (t .lie v) (λ past. subst (λ (x : Span). Lies links v x) (sym (span-past t v past)) (omega arith)) (cases-lt v (t .size)) in
     subst (λ (x : Span). Lies links v x) (sym its) at
 
 pub leads-of : (t : Table) (v : ℕ) (s : Span) → s ≡ span-at (vec-items (t .spans)) v → Leads (vec-items (t .links)) v s
 leads-of t v s its =
     let links = vec-items (t .links) in
     let at : Leads links v (span-at (vec-items (t .spans)) v) =
-        ⊎-elim (t .lead v) (λ past. subst (λ (x : Span). Leads links v x) (sym (span-past t v past)) (leads-none (t .size) links (t .ended) v past)) (cases-lt v (t .size)) in
+    ⊎-elim (t .lead v) (λ past. subst (λ (x : Span). Leads links v x) (sym (span-past t v past)) (leads-none (t .size) links (t .ended) v past)) (cases-lt v (t .size)) in
     subst (λ (x : Span). Leads links v x) (sym its) at
 
 module _ (t : Table) (v : ℕ) (s : Span) (its : s ≡ span-at (vec-items (t .spans)) v) where
@@ -59,7 +59,7 @@ module _ (t : Table) (v : ℕ) (s : Span) (its : s ≡ span-at (vec-items (t .sp
       let within : i < length held = omega (arith, held-count) in
       let link : getD held i no-link ≡ getD links (s .first + i) no-link = getD-take (s .degree) (drop (s .first) links) i no-link there ∙ getD-drop (s .first) links i no-link in
       let read : getD (leads-from links v) i 0 ≡ getD links (s .first + i) no-link .to =
-          ap (λ ws. getD ws i 0) leads ∙ getD-map (λ (l : Link). l .to) held i no-link 0 within ∙ ap (λ (l : Link). l .to) link in
+      ap (λ ws. getD ws i 0) leads ∙ getD-map (λ (l : Link). l .to) held i no-link 0 within ∙ ap (λ (l : Link). l .to) link in
       nth-getD (leads-from links v) i 0 (omega (arith, leads-count)) ∙ ap (λ w. Some w) read
 
   pub leads-nth-past : (i : ℕ) → s .degree ≤ i → nth (leads-from links v) i ≡ None

@@ -140,9 +140,9 @@ module _ (links : List Link) (u w : ℕ) where
       let s = grown (span-at spans u) (length links) in
       ⊎-elim
       (λ e.
-        let here : span-at (set spans u s) v ≡ s = ap (span-at (set spans u s)) e ∙ getD-set-same spans u s no-span (omega arith) in
-        let grew : Placed more v s = subst (λ (x : ℕ). Placed more x s) (sym e) (placed-same (span-at spans u) rises (old u within) free) in
-        subst (λ (x : Span). Placed more v x) (sym here) grew)
+      let here : span-at (set spans u s) v ≡ s = ap (span-at (set spans u s)) e ∙ getD-set-same spans u s no-span (omega arith) in
+      let grew : Placed more v s = subst (λ (x : ℕ). Placed more x s) (sym e) (placed-same (span-at spans u) rises (old u within) free) in
+      subst (λ (x : Span). Placed more v x) (sym here) grew)
       (λ apart. subst (λ (x : Span). Placed more v x) (sym (getD-set-other spans u v s no-span apart)) (placed-other v (span-at spans v) apart rises (old v there)))
       (cases-eq v u)
 
@@ -161,10 +161,10 @@ module _ (links : List Link) (u w : ℕ) where
       ⊎-elim
       (λ old. subst (λ (l : Link). l .from ≤ getD more (k + 1) no-link .from) (sym before) (subst (λ (l : Link). getD links k no-link .from ≤ l .from) (sym (getD-append-left links (new ∷ []) no-link (k + 1) old)) (rising k old)))
       (λ late.
-        let newest : length links ≡ k + 1 = omega arith in
-        let last : length links - 1 ≡ k = omega arith in
-        let low : getD links k no-link .from ≤ u = subst (λ (j : ℕ). getD links j no-link .from ≤ u) last rises in
-        subst (λ (l : Link). l .from ≤ getD more (k + 1) no-link .from) (sym before) (subst (λ (l : Link). getD links k no-link .from ≤ l .from) (sym (getD-push links new no-link (k + 1) newest)) low))
+      let newest : length links ≡ k + 1 = omega arith in
+      let last : length links - 1 ≡ k = omega arith in
+      let low : getD links k no-link .from ≤ u = subst (λ (j : ℕ). getD links j no-link .from ≤ u) last rises in
+      subst (λ (l : Link). l .from ≤ getD more (k + 1) no-link .from) (sym before) (subst (λ (l : Link). getD links k no-link .from ≤ l .from) (sym (getD-push links new no-link (k + 1) newest)) low))
       (cases-lt (k + 1) (length links))
 
 -- what a table keeps of its links and spans

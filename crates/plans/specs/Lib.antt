@@ -1,4 +1,5 @@
 pub mod Answers
+pub mod Anys
 pub mod Cablings
 pub mod Completes
 pub mod Leading

@@ -36,11 +36,7 @@ impl Complete {
 fn ports_at(size: u16, v: u16) -> u16
     ensures { λ r. ⌜ r ≡ cond (ltb v size) (size - 1) 0 ⌝ }
 {
-    if v < size {
-        size - 1
-    } else {
-        0
-    }
+    if v < size { size - 1 } else { 0 }
 }
 
 // The vertex that stands at the port's place once `v` is passed over.
@@ -48,11 +44,7 @@ fn passing(v: u16, port: u16) -> u16
     requires { ⌜ port < 1024 ⌝ }
     ensures { λ r. ⌜ r ≡ cond (ltb port v) port (port + 1) ⌝ }
 {
-    if port < v {
-        port
-    } else {
-        port + 1
-    }
+    if port < v { port } else { port + 1 }
 }
 
 pub impl Plan for Complete as CompletePlan {

@@ -10,15 +10,20 @@ ghost use Rattle.plans.specs.Soundness.{table-sound};
 ghost use Rattle.plans.specs.Spans.{span-at, grown};
 ghost use Rattle.plans.specs.Tables.{cabling-of};
 ghost use Rattle.std.specs.Of.Vec.{vec-items, vec-len};
+use super::Link;
+use super::Span;
+use super::Table;
 use crate::limits::plan_fault;
-use super::{Link, Span, Table};
 use model::fault::DrawFault;
 use model::plan::Plan;
 use std::alloc::Global;
 
 const MAX_LINKS: usize = 4096;
 
-const NO_SPAN: Span = Span { first: 0, degree: 0 };
+const NO_SPAN: Span = Span {
+    first: 0,
+    degree: 0,
+};
 
 impl Span {
     // One more link, which stands at index `end`.
@@ -27,9 +32,15 @@ impl Span {
         ensures { λ r. ⌜ r ≡ grown self end ⌝ }
     {
         if self.degree == 0 {
-            Span { first: end, degree: 1 }
+            Span {
+                first: end,
+                degree: 1,
+            }
         } else {
-            Span { first: self.first, degree: self.degree + 1 }
+            Span {
+                first: self.first,
+                degree: self.degree + 1,
+            }
         }
     }
 }
@@ -49,7 +60,12 @@ impl Table {
         if spans.resize(size as usize, NO_SPAN).is_err() {
             return Err(DrawFault::NoMemory);
         }
-        Ok(Table { size, root, links, spans })
+        Ok(Table {
+            size,
+            root,
+            links,
+            spans,
+        })
     }
 
     pub fn links(&self) -> &[Link]
@@ -98,7 +114,8 @@ impl Table {
     fn may_follow(&self, from: u16, to: u16) -> bool
         ensures { λ r. ⌜ r ≡ may-follow (cabling-of (now (self .entry))) from to ⌝ }
     {
-        (from < self.size) & ((to < self.size) & ((self.last_start() <= from) & (self.ports_at(from) < 1023)))
+        (from < self.size)
+            & ((to < self.size) & ((self.last_start() <= from) & (self.ports_at(from) < 1023)))
     }
 
     fn link_fault(&self, from: u16, to: u16) -> Option<DrawFault>
