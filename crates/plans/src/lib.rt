@@ -4,3 +4,5 @@ pub mod any;
 pub mod complete;
 mod limits;
 pub mod table;
+#[cfg(test)]
+mod tests;

@@ -1,7 +1,6 @@
 // What a table answers, and how it takes a link.
 ghost use mathlib.Core.Path.{_≡_};
-ghost use mathlib.Core.Logic.{_⊎_};
-ghost use Prim.Native.Nat.{ℕ, _+_, _-_, _≤_, _<_};
+ghost use Prim.Native.Nat.{_<_};
 ghost use lib.ListN.{length, getD};
 ghost use Rattle.plans.specs.Answers.{made-as, Made-or-no-memory};
 ghost use Rattle.plans.specs.Cablings.{cabled, leads-from, last-start, may-follow, link-fault, linked, no-link, unlinked};
