@@ -4,5 +4,6 @@ pub mod Lowest
 pub mod Pigeons
 pub mod Popping
 pub mod Reaching
+pub mod Sounds
 pub mod Trees
 pub mod Ways

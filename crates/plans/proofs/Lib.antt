@@ -1,1 +1,4 @@
+pub mod Others
+pub mod Spanning
+pub mod Telling
 pub mod Walks

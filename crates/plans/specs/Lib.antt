@@ -1,1 +1,11 @@
+pub mod Answers
+pub mod Anys
+pub mod Cablings
+pub mod Completes
+pub mod Leading
+pub mod Limits
 pub mod Marks
+pub mod Others
+pub mod Soundness
+pub mod Spans
+pub mod Tables
