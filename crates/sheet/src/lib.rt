@@ -1,0 +1,4 @@
+// Turns a line of a text sheet, as bytes, into the command that it asks for.
+
+pub mod number;
+pub mod words;
