@@ -4,10 +4,13 @@ ghost use Rattle.std.specs.Vec.{made};
 ghost use Rattle.std.specs.shelf.Text.{sameBytes};
 ghost use Rattle.sheet.specs.Commands.{keyword-of, small-of, port-of, sized-of, ends-of, pair-of, complete-of, table-of, link-of, check-of, help-of, command-of};
 ghost use Rattle.sheet.specs.Answers.{answer};
+ghost use Rattle.sheet.specs.Told.{told};
 ghost use Rattle.sheet.specs.Words.{bytes};
+ghost use Rattle.std.specs.declared.option.Option.the-variants.{Some};
 use crate::number::number;
 use std::alloc::AllocError;
 use std::alloc::Global;
+use std::fmt;
 
 // Ports as they were written, 65535 for the root's.
 #[derive(Drop)]
@@ -30,6 +33,27 @@ pub enum Mistake {
     Root,
     // A number is none, or too large.
     Number,
+}
+
+impl Mistake {
+    pub fn text(&self) -> &'static str
+        ensures { λ r. ⌜ now r ≡ told (now (self .entry)) ⌝ }
+    {
+        match self {
+            Mistake::Unknown => "no such command",
+            Mistake::Count => "wrong number of words",
+            Mistake::Root => "the word `root` is missing",
+            Mistake::Number => "a number is wrong or too large",
+        }
+    }
+}
+
+impl fmt::Display for Mistake as MistakeDisplay {
+    ghost shown = { λ m. Some (told m) };
+
+    fn fmt<W: fmt::Write>(&self, f: &mut fmt::Formatter<W>) -> fmt::Result {
+        f.write_str(self.text())
+    }
 }
 
 #[derive(Clone, Copy, PartialEq, Eq, Debug)]
