@@ -1,3 +1,4 @@
-mod Cuts
-mod Readings
 mod Askings
+mod Cuts
+mod Laws
+mod Readings

@@ -1,11 +1,11 @@
 // Cuts a line of a sheet into its words.
 ghost use mathlib.Core.Path.{_≡_};
-ghost use mathlib.Core.Bool.{cond};
-ghost use mathlib.Core.List.{map, _++_};
+ghost use Prim.Native.Nat.{ℕ};
+ghost use Rattle.std.specs.shelf.Lists.{All};
+ghost use mathlib.Core.List.{List, _++_};
 ghost use Rattle.std.specs.Of.Vec.{vec-items};
-ghost use Rattle.std.specs.Results.{isOk};
 ghost use Rattle.std.specs.Vec.{made};
-ghost use Rattle.sheet.specs.Words.{blank, uncommented, whole, bytes, words-of};
+ghost use Rattle.sheet.specs.Words.{blank, uncommented, whole, bytes, words-of, Proper, spaced};
 use std::alloc::AllocError;
 use std::alloc::Global;
 
@@ -39,7 +39,9 @@ fn keep<'a>(out: &mut Vec<&'a [u8]>, word: &'a [u8]) -> Result<(), AllocError>
 
 // The words of the line, in order; none where it is blank or all comment.
 pub fn words<'a>(heap: Global, line: &'a [u8]) -> Result<Vec<&'a [u8]>, AllocError>
-    ensures { λ r. ⌜ made r (λ v. bytes (vec-items v) ≡ words-of (now (line .entry))) ⌝ }
+    ensures are { λ r. ⌜ made r (λ v. bytes (vec-items v) ≡ words-of (now (line .entry))) ⌝ }
+    ensures proper { λ r. ⌜ made r (λ v. All Proper (bytes (vec-items v))) ⌝ }
+    ensures back { λ r. ⌜ made r (λ v. (ws : List (List ℕ)) → All Proper ws → now (line .entry) ≡ spaced ws → bytes (vec-items v) ≡ ws) ⌝ }
 {
     let text = before_comment(line);
     let mut out = Vec::new(heap);
