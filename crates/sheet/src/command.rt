@@ -12,8 +12,8 @@ use std::alloc::AllocError;
 use std::alloc::Global;
 use std::fmt;
 
-// Ports as they were written, 65535 for the root's.
-#[derive(Drop)]
+// A port that was written `-` is 65535.
+#[derive(PartialEq, Eq, Debug, Drop)]
 pub enum Command {
     Complete { size: u16, root: u16 },
     Table { size: u16, root: u16 },
@@ -48,7 +48,7 @@ impl Mistake {
     }
 }
 
-impl fmt::Display for Mistake as MistakeDisplay {
+pub impl fmt::Display for Mistake as MistakeDisplay {
     ghost shown = { λ m. Some (told m) };
 
     fn fmt<W: fmt::Write>(&self, f: &mut fmt::Formatter<W>) -> fmt::Result {

@@ -3,3 +3,5 @@
 pub mod command;
 pub mod number;
 pub mod words;
+#[cfg(test)]
+mod tests;
