@@ -1,9 +1,7 @@
 // Lines and what is made of them.
 use crate::command::Command;
-use crate::command::CommandDebug;
 use crate::command::CommandPartialEq;
 use crate::command::Mistake;
-use crate::command::MistakeDebug;
 use crate::command::MistakeDisplay;
 use crate::command::MistakePartialEq;
 use crate::command::command_of;
@@ -40,27 +38,35 @@ fn numbers_are_read() -> Result<(), Fail> {
     check_eq(number(b"+1", 9), None)
 }
 
+fn reads(heap: Global, line: &[u8], asked: Result<Command, Mistake>) -> Result<(), Fail> {
+    check(read(heap, line)? == asked)
+}
+
 #[test]
 fn commands_are_read(rt: LibcRuntime) -> Result<(), Fail> {
     let heap = rt.alloc();
-    check_eq(read(heap, b"complete 1024 root 7")?, Ok(Command::Complete { size: 1024, root: 7 }))?;
-    check_eq(read(heap, b"table 2 root 01 # two")?, Ok(Command::Table { size: 2, root: 1 }))?;
-    check_eq(read(heap, b"link 0 65535")?, Ok(Command::Link { from: 0, to: 65535 }))?;
+    reads(heap, b"complete 1024 root 7", Ok(Command::Complete { size: 1024, root: 7 }))?;
+    reads(heap, b"table 2 root 01 # two", Ok(Command::Table { size: 2, root: 1 }))?;
+    reads(heap, b"link 0 65535", Ok(Command::Link { from: 0, to: 65535 }))?;
+    reads(heap, b"check", Ok(Command::Check { ports: Vec::new(heap) }))?;
     let ports = vec![in heap; 3, 65535]?;
-    check_eq(read(heap, b"check 3 -")?, Ok(Command::Check { ports }))?;
-    check_eq(read(heap, b"check")?, Ok(Command::Check { ports: Vec::new(heap) }))?;
-    check_eq(read(heap, b"help")?, Ok(Command::Help))
+    reads(heap, b"check 3 -", Ok(Command::Check { ports }))?;
+    reads(heap, b"help", Ok(Command::Help))
 }
 
 #[test]
 fn mistakes_are_told(rt: LibcRuntime) -> Result<(), Fail> {
     let heap = rt.alloc();
-    check_eq(read(heap, b"# nothing")?, Err(Mistake::Unknown))?;
-    check_eq(read(heap, b"Help")?, Err(Mistake::Unknown))?;
-    check_eq(read(heap, b"complete x rooot")?, Err(Mistake::Count))?;
-    check_eq(read(heap, b"complete x rooot y")?, Err(Mistake::Root))?;
-    check_eq(read(heap, b"complete x root 1")?, Err(Mistake::Number))?;
-    check_eq(read(heap, b"link 1 65536")?, Err(Mistake::Number))?;
-    check_eq(read(heap, b"check 1 +2")?, Err(Mistake::Number))?;
-    check_eq(Mistake::Root.to_string(heap)?.as_str(), "the word `root` is missing")
+    reads(heap, b"# nothing", Err(Mistake::Unknown))?;
+    reads(heap, b"Help", Err(Mistake::Unknown))?;
+    reads(heap, b"complete x rooot", Err(Mistake::Count))?;
+    reads(heap, b"complete x rooot y", Err(Mistake::Root))?;
+    reads(heap, b"complete x root 1", Err(Mistake::Number))?;
+    reads(heap, b"link 1 65536", Err(Mistake::Number))?;
+    reads(heap, b"check 1 +2", Err(Mistake::Number))
+}
+
+#[test]
+fn a_mistake_is_shown(rt: LibcRuntime) -> Result<(), Fail> {
+    check_eq(Mistake::Root.to_string(rt.alloc())?.as_str(), "the word `root` is missing")
 }
