@@ -23,11 +23,11 @@ from-start [] most some = absurd (some refl)
 from-start (b ∷ bs) most some = refl
 
 -- a digit at i is taken in
-pub one-digit : (n most i d : ℕ) (w : List ℕ) → i < length w → asciiDigit (getD w i 0) ≡ true → d ≡ getD w i 0 - 48 → number-after (n * 10 + d) most (drop (i + 1) w) ≡ number-after n most (drop i w)
-one-digit n most i d w within digit is =
+pub one-digit : (n most i v : ℕ) (w : List ℕ) → i < length w → asciiDigit (getD w i 0) ≡ true → v ≡ n * 10 + (getD w i 0 - 48) → number-after v most (drop (i + 1) w) ≡ number-after n most (drop i w)
+one-digit n most i v w within digit is =
     let rest = drop (i + 1) w in
     let all = value-after (n * 10 + (getD w i 0 - 48)) rest in
-    ap (λ (k : ℕ). number-after (n * 10 + k) most rest) is
+    ap (λ (k : ℕ). number-after k most rest) is
     ∙ ap (λ (t : Bool). cond ((t && allDigits rest) && leb all most) (Some all) None) (sym digit)
     ∙ sym (at-drop-more (number-after n most) w i 0 within)
 

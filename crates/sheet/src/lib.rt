@@ -2,6 +2,6 @@
 
 pub mod command;
 pub mod number;
-pub mod words;
 #[cfg(test)]
 mod tests;
+pub mod words;

@@ -1,6 +1,15 @@
 // Reads a word of a sheet as a decimal number.
 ghost use mathlib.Core.Path.{_≡_};
+ghost use Prim.Native.Nat.{_+_, _-_, _*_, _^_, _<_, _≤_};
 ghost use Rattle.sheet.specs.Numbers.{number-of};
+
+// The number with one more digit behind it.
+fn one_more(value: u64, digit: u8) -> u64
+    requires { ⌜ value < 2 ^ 32 ⌝ ∗ ⌜ 48 ≤ digit ⌝ }
+    ensures { λ r. ⌜ r ≡ value * 10 + (digit - 48) ⌝ }
+{
+    value * 10 + u64::from(digit - b'0')
+}
 
 // The number that the digits of `word` write, none where a byte is no digit, where there is no byte,
 // or where the number is above `most`.
@@ -16,7 +25,7 @@ pub fn number(word: &[u8], most: u32) -> Option<u32>
         if !b.is_ascii_digit() {
             return None;
         }
-        value = value * 10 + u64::from(*b - b'0');
+        value = one_more(value, *b);
         // More digits only make it larger.
         if value > limit {
             return None;

@@ -32,7 +32,10 @@ fn words_are_cut(rt: LibcRuntime) -> Result<(), Fail> {
 fn numbers_are_read() -> Result<(), Fail> {
     check_eq(number(b"65535", 65535), Some(65535))?;
     check_eq(number(b"65536", 65535), None)?;
-    check_eq(number(b"0000000000000000000000004294967295", 4294967295), Some(4294967295))?;
+    check_eq(
+        number(b"0000000000000000000000004294967295", 4294967295),
+        Some(4294967295),
+    )?;
     check_eq(number(b"4294967296", 4294967295), None)?;
     check_eq(number(b"", 9), None)?;
     check_eq(number(b"+1", 9), None)
@@ -45,10 +48,31 @@ fn reads(heap: Global, line: &[u8], asked: Result<Command, Mistake>) -> Result<(
 #[test]
 fn commands_are_read(rt: LibcRuntime) -> Result<(), Fail> {
     let heap = rt.alloc();
-    reads(heap, b"complete 1024 root 7", Ok(Command::Complete { size: 1024, root: 7 }))?;
-    reads(heap, b"table 2 root 01 # two", Ok(Command::Table { size: 2, root: 1 }))?;
-    reads(heap, b"link 0 65535", Ok(Command::Link { from: 0, to: 65535 }))?;
-    reads(heap, b"check", Ok(Command::Check { ports: Vec::new(heap) }))?;
+    reads(
+        heap,
+        b"complete 1024 root 7",
+        Ok(Command::Complete {
+            size: 1024,
+            root: 7,
+        }),
+    )?;
+    reads(
+        heap,
+        b"table 2 root 01 # two",
+        Ok(Command::Table { size: 2, root: 1 }),
+    )?;
+    reads(
+        heap,
+        b"link 0 65535",
+        Ok(Command::Link { from: 0, to: 65535 }),
+    )?;
+    reads(
+        heap,
+        b"check",
+        Ok(Command::Check {
+            ports: Vec::new(heap),
+        }),
+    )?;
     let ports = vec![in heap; 3, 65535]?;
     reads(heap, b"check 3 -", Ok(Command::Check { ports }))?;
     reads(heap, b"help", Ok(Command::Help))
@@ -68,5 +92,8 @@ fn mistakes_are_told(rt: LibcRuntime) -> Result<(), Fail> {
 
 #[test]
 fn a_mistake_is_shown(rt: LibcRuntime) -> Result<(), Fail> {
-    check_eq(Mistake::Root.to_string(rt.alloc())?.as_str(), "the word `root` is missing")
+    check_eq(
+        Mistake::Root.to_string(rt.alloc())?.as_str(),
+        "the word `root` is missing",
+    )
 }

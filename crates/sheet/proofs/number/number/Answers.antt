@@ -1,5 +1,5 @@
 use mathlib.Core.Path.{sym, _∙_}
-use Prim.Native.Nat.{_+_, _*_, _<_}
+use Prim.Native.Nat.{_+_, _<_}
 use native.Mathlib.Omega.{arith}
 use lib.ListN.{drop}
 use Rattle.std.proofs.shelf.Tests.{eqb-false}
@@ -15,15 +15,15 @@ returns-then-not-is-ascii-digit c =
 
 pub returns-then-value-limit : need.returns-then-value-limit
 returns-then-value-limit c =
-    let above : c .args .most < c .loop-b .value * 10 + c .from .result = omega (arith, c .from-limit .ensures) in
+    let above : c .args .most < c .one-more-value .result = omega (arith, c .from-limit .ensures) in
     sym (too-large _ _ (drop (c .loop-b .b-index + 1) (c .args .word .now)) above)
-    ∙ one-digit (c .loop-b .value) _ (c .loop-b .b-index) _ _ (c .loop-b-test .taken) (sym (c .if-not-is-ascii-digit .ensures tt .value)) (c .from .ensures)
+    ∙ one-digit (c .loop-b .value) _ (c .loop-b .b-index) _ _ (c .loop-b-test .taken) (sym (c .if-not-is-ascii-digit .ensures tt .value)) (c .one-more-value .ensures)
     ∙ c .loop-b .inv .1
 
 pub loop-b-again : need.loop-b-again
 loop-b-again c = (
   omega (arith, c .from-limit .ensures),
-  one-digit (c .loop-b .value) _ (c .loop-b .b-index) _ _ (c .loop-b-test .taken) (sym (c .if-not-is-ascii-digit .ensures tt .value)) (c .from .ensures)
+  one-digit (c .loop-b .value) _ (c .loop-b .b-index) _ _ (c .loop-b-test .taken) (sym (c .if-not-is-ascii-digit .ensures tt .value)) (c .one-more-value .ensures)
       ∙ c .loop-b .inv .1,
 )
 
