@@ -1,0 +1,99 @@
+// Lines and what is made of them.
+use crate::command::Command;
+use crate::command::CommandPartialEq;
+use crate::command::Mistake;
+use crate::command::MistakeDisplay;
+use crate::command::MistakePartialEq;
+use crate::command::command_of;
+use crate::number::number;
+use crate::words::words;
+use std::alloc::AllocError;
+use std::alloc::Global;
+use std::test::*;
+
+fn read(heap: Global, line: &[u8]) -> Result<Result<Command, Mistake>, AllocError> {
+    let cut = words(heap, line)?;
+    command_of(heap, cut.as_slice())
+}
+
+fn same(word: &[u8], text: &[u8]) -> bool {
+    word == text
+}
+
+#[test]
+fn words_are_cut(rt: LibcRuntime) -> Result<(), Fail> {
+    let cut = words(rt.alloc(), b" \tlink  7\r 08#9 10")?;
+    check(cut.len() == 3)?;
+    check(same(cut[0], b"link") && same(cut[1], b"7") && same(cut[2], b"08"))?;
+    check_eq(words(rt.alloc(), b" \t# help")?.len(), 0)
+}
+
+#[test]
+fn numbers_are_read() -> Result<(), Fail> {
+    check_eq(number(b"65535", 65535), Some(65535))?;
+    check_eq(number(b"65536", 65535), None)?;
+    check_eq(
+        number(b"0000000000000000000000004294967295", 4294967295),
+        Some(4294967295),
+    )?;
+    check_eq(number(b"4294967296", 4294967295), None)?;
+    check_eq(number(b"", 9), None)?;
+    check_eq(number(b"+1", 9), None)
+}
+
+fn reads(heap: Global, line: &[u8], asked: Result<Command, Mistake>) -> Result<(), Fail> {
+    check(read(heap, line)? == asked)
+}
+
+#[test]
+fn commands_are_read(rt: LibcRuntime) -> Result<(), Fail> {
+    let heap = rt.alloc();
+    reads(
+        heap,
+        b"complete 1024 root 7",
+        Ok(Command::Complete {
+            size: 1024,
+            root: 7,
+        }),
+    )?;
+    reads(
+        heap,
+        b"table 2 root 01 # two",
+        Ok(Command::Table { size: 2, root: 1 }),
+    )?;
+    reads(
+        heap,
+        b"link 0 65535",
+        Ok(Command::Link { from: 0, to: 65535 }),
+    )?;
+    reads(
+        heap,
+        b"check",
+        Ok(Command::Check {
+            ports: Vec::new(heap),
+        }),
+    )?;
+    let ports = vec![in heap; 3, 65535]?;
+    reads(heap, b"check 3 -", Ok(Command::Check { ports }))?;
+    reads(heap, b"help", Ok(Command::Help))
+}
+
+#[test]
+fn mistakes_are_told(rt: LibcRuntime) -> Result<(), Fail> {
+    let heap = rt.alloc();
+    reads(heap, b"# nothing", Err(Mistake::Unknown))?;
+    reads(heap, b"Help", Err(Mistake::Unknown))?;
+    reads(heap, b"complete x rooot", Err(Mistake::Count))?;
+    reads(heap, b"complete x rooot y", Err(Mistake::Root))?;
+    reads(heap, b"complete x root 1", Err(Mistake::Number))?;
+    reads(heap, b"link 1 65536", Err(Mistake::Number))?;
+    reads(heap, b"check 1 +2", Err(Mistake::Number))
+}
+
+#[test]
+fn a_mistake_is_shown(rt: LibcRuntime) -> Result<(), Fail> {
+    check_eq(
+        Mistake::Root.to_string(rt.alloc())?.as_str(),
+        "the word `root` is missing",
+    )
+}
