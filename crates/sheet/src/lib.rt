@@ -1,0 +1,4 @@
+// Does the commands of a sheet, one after the other, and words the answers.
+
+pub mod answer;
+pub mod session;
