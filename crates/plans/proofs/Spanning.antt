@@ -1,11 +1,11 @@
 -- What the span of a vertex tells of the links from it. Assumes nothing.
 use mathlib.Core.Path.{_≡_, sym, ap, subst, _∙_}
-use mathlib.Core.List.{List, map}
+use mathlib.Core.List.{List}
 use mathlib.Core.Logic.{⊎-elim}
 use Prim.Native.Nat.{ℕ, _+_, _≤_, _<_}
 use native.Mathlib.Omega.{arith}
 use lib.ListN.{length, getD, take, drop}
-use Rattle.plans.specs.Cablings.{leads-from, no-link}
+use Rattle.plans.specs.Cablings.{end-of, leads-from, no-link}
 use Rattle.plans.specs.Leading.{leads-none}
 use Rattle.plans.specs.Spans.{Lies, Leads, no-span, span-at}
 use Rattle.plans.specs.declared.table.Link.{Link}
@@ -50,7 +50,7 @@ module _ (t : Table) (v : ℕ) (s : Span) (its : s ≡ span-at (vec-items (t .sp
   held-count = length-take-le (s .degree) (drop (s .first) links) (omega (arith, lies, length-drop (s .first) links))
 
   pub leads-count : length (leads-from links v) ≡ s .degree
-  leads-count = ap length leads ∙ length-map (take (s .degree) (drop (s .first) links)) (λ (l : Link). l .to) ∙ held-count
+  leads-count = ap length leads ∙ length-map (take (s .degree) (drop (s .first) links)) end-of ∙ held-count
 
   -- the i-th link of the span
   pub leads-nth : (i : ℕ) → i < s .degree → nth (leads-from links v) i ≡ Some (getD links (s .first + i) no-link .to)
@@ -59,7 +59,7 @@ module _ (t : Table) (v : ℕ) (s : Span) (its : s ≡ span-at (vec-items (t .sp
       let within : i < length held = omega (arith, held-count) in
       let link : getD held i no-link ≡ getD links (s .first + i) no-link = getD-take (s .degree) (drop (s .first) links) i no-link there ∙ getD-drop (s .first) links i no-link in
       let read : getD (leads-from links v) i 0 ≡ getD links (s .first + i) no-link .to =
-      ap (λ ws. getD ws i 0) leads ∙ getD-map (λ (l : Link). l .to) held i no-link 0 within ∙ ap (λ (l : Link). l .to) link in
+      ap (λ ws. getD ws i 0) leads ∙ getD-map end-of held i no-link 0 within ∙ ap end-of link in
       nth-getD (leads-from links v) i 0 (omega (arith, leads-count)) ∙ ap (λ w. Some w) read
 
   pub leads-nth-past : (i : ℕ) → s .degree ≤ i → nth (leads-from links v) i ≡ None

@@ -8,7 +8,7 @@ use native.Mathlib.Omega.{arith}
 use lib.Dec.{eqb}
 use lib.ListN.{length, getD, set, take, drop}
 use Rattle.plans.proofs.Spanning.{leads-count}
-use Rattle.plans.specs.Cablings.{Cabling, leads-from, last-start, link-fault, no-link}
+use Rattle.plans.specs.Cablings.{Cabling, end-of, last-start, leads-from, link-fault, no-link, starts-at}
 use Rattle.plans.specs.Spans.{Bare-above, Ended, Ends-last, Leads, Lies, Narrow, Rising-starts, grown, span-at, no-span}
 use Rattle.plans.specs.Tables.{cabling-of}
 use Rattle.plans.specs.declared.table.Link.{Link}
@@ -57,15 +57,15 @@ module _ (links : List Link) (u w : ℕ) where
   last-more : last-start more ≡ u
   last-more = ap (λ (l : Link). l .from) (getD-push links new no-link (length more - 1) (omega (arith, length-push links new)))
 
-  kept-new : (b : Bool) → map (λ (l : Link). l .to) (cond b (new ∷ []) []) ≡ cond b (w ∷ []) []
+  kept-new : (b : Bool) → map end-of (cond b (new ∷ []) []) ≡ cond b (w ∷ []) []
   kept-new true = refl
   kept-new false = refl
 
   leads-more : (v : ℕ) → leads-from more v ≡ leads-from links v ++ cond (eqb u v) (w ∷ []) []
   leads-more v =
-      let kept = kept-by (λ (l : Link). eqb (l .from) v) links in
-      ap (map (λ (l : Link). l .to)) (kept-by-append (λ (l : Link). eqb (l .from) v) links (new ∷ []))
-      ∙ map-append (λ (l : Link). l .to) kept (cond (eqb u v) (new ∷ []) []) ∙ ap (λ ws. leads-from links v ++ ws) (kept-new (eqb u v))
+      let kept = kept-by (starts-at v) links in
+      ap (map end-of) (kept-by-append (starts-at v) links (new ∷ []))
+      ∙ map-append end-of kept (cond (eqb u v) (new ∷ []) []) ∙ ap (λ ws. leads-from links v ++ ws) (kept-new (eqb u v))
 
   leads-other : (v : ℕ) → (v ≡ u → ⊥) → leads-from more v ≡ leads-from links v
   leads-other v apart =
@@ -91,7 +91,7 @@ module _ (links : List Link) (u w : ℕ) where
   placed-other v s apart rises p = record {
     lies = omega (arith, length-push links new, p .lies);
     narrow = p .narrow;
-    leads = leads-other v apart ∙ p .leads ∙ ap (map (λ (l : Link). l .to)) (sym (held-same (s .first) (s .degree) (p .lies)));
+    leads = leads-other v apart ∙ p .leads ∙ ap (map end-of) (sym (held-same (s .first) (s .degree) (p .lies)));
     bare = λ above. p .bare (omega (arith, last-more));
     last = λ here. absurd (apart (sym (here .0) ∙ last-more));
   }
@@ -114,9 +114,9 @@ module _ (links : List Link) (u w : ℕ) where
         (λ some. let pos : 0 < s .degree = omega (arith, some) in omega (arith, start-some some, p .last (at-last some, pos)))
         (cases-eq (s .degree) 0)
 
-    leads-now : leads-from links u ≡ map (λ (l : Link). l .to) (take (s .degree) (drop (grown s (length links) .first) links))
+    leads-now : leads-from links u ≡ map end-of (take (s .degree) (drop (grown s (length links) .first) links))
     leads-now =
-        let held : ℕ → ℕ → List ℕ = λ f d. map (λ (l : Link). l .to) (take d (drop f links)) in
+        let held : ℕ → ℕ → List ℕ = λ f d. map end-of (take d (drop f links)) in
         let f = grown s (length links) .first in
         ⊎-elim
         (λ none. p .leads ∙ ap (held (s .first)) none ∙ sym (ap (held f) none))
@@ -129,7 +129,7 @@ module _ (links : List Link) (u w : ℕ) where
         record {
           lies = omega (arith, length-push links new, ends-now);
           narrow = omega arith;
-          leads = leads-same ∙ ap (λ ws. ws ++ (w ∷ [])) leads-now ∙ sym (map-push (λ (l : Link). l .to) (take (s .degree) (drop f links)) new) ∙ ap (map (λ (l : Link). l .to)) (sym (held-more f (s .degree) ends-now));
+          leads = leads-same ∙ ap (λ ws. ws ++ (w ∷ [])) leads-now ∙ sym (map-push end-of (take (s .degree) (drop f links)) new) ∙ ap (map end-of) (sym (held-more f (s .degree) ends-now));
           bare = λ above. absurd (omega (arith, last-more));
           last = λ here. omega (arith, length-push links new, ends-now);
         }

@@ -24,9 +24,17 @@ pub record Cabling : Type 0 where
 abbrev pub unlinked : ℕ → ℕ → Cabling
 unlinked n r = record { size = n; root = r; links = [] }
 
+-- the link starts at v
+abbrev pub starts-at : ℕ → Link → Bool
+starts-at v l = eqb (l .from) v
+
+-- where the link leads
+abbrev pub end-of : Link → ℕ
+end-of l = l .to
+
 -- where the links that start at v lead, in their order
 abbrev pub leads-from : List Link → ℕ → List ℕ
-leads-from links v = map (λ l. l .to) (kept-by (λ l. eqb (l .from) v) links)
+leads-from links v = map end-of (kept-by (starts-at v) links)
 
 -- the plan in which port i of v is the i-th link from v
 abbrev pub cabled : Cabling → Layout

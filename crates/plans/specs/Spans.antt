@@ -5,7 +5,7 @@ use mathlib.Core.List.{List, map}
 use Prim.Native.Nat.{ℕ, _+_, _≤_, _<_}
 use lib.Dec.{eqb}
 use lib.ListN.{length, getD, take, drop}
-use Rattle.plans.specs.Cablings.{leads-from, last-start, no-link}
+use Rattle.plans.specs.Cablings.{end-of, last-start, leads-from, no-link}
 use Rattle.plans.specs.declared.table.Link.{Link}
 use Rattle.plans.specs.declared.table.Span.{Span}
 
@@ -39,7 +39,7 @@ Narrow v s = s .degree ≤ 1023
 
 -- the links in the span are those from v
 abbrev pub Leads : List Link → ℕ → Span → Type 0
-Leads links v s = leads-from links v ≡ map (λ l. l .to) (take (s .degree) (drop (s .first) links))
+Leads links v s = leads-from links v ≡ map end-of (take (s .degree) (drop (s .first) links))
 
 -- no link starts above the last start
 abbrev pub Bare-above : List Link → ℕ → Span → Type 0

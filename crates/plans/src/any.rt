@@ -1,5 +1,4 @@
 // One plan of either kind.
-ghost use mathlib.Core.Path.{_≡_};
 ghost use Rattle.plans.specs.Anys.{any-layout, any-sound};
 use crate::complete::Complete;
 use crate::complete::CompletePlan;
