@@ -31,11 +31,12 @@ keyword-of word =
     (cond (sameBytes word (codes "check")) (Some Check)
     (cond (sameBytes word (codes "help")) (Some Help) None))))
 
--- a number where a vertex, a port or a size stands
+-- a word that writes no number, or too large a one, is a mistake
 abbrev pub small-or : Option ℕ → Result ℕ Mistake
 small-or None = Err Number
 small-or (Some n) = Ok n
 
+-- a number where a vertex, a port or a size stands
 abbrev pub small-of : List ℕ → Result ℕ Mistake
 small-of word = small-or (number-of word 65535)
 
@@ -43,10 +44,12 @@ small-of word = small-or (number-of word 65535)
 abbrev pub port-of : List ℕ → Result ℕ Mistake
 port-of word = cond (sameBytes word (codes "-")) (Ok 65535) (small-of word)
 
+-- the first number is read, the second may be a mistake
 abbrev pub second-of : ℕ → Result ℕ Mistake → Result (ℕ × ℕ) Mistake
 second-of m (Err e) = Err e
 second-of m (Ok n) = Ok (m, n)
 
+-- both numbers, or the first mistake
 abbrev pub both-of : Result ℕ Mistake → Result ℕ Mistake → Result (ℕ × ℕ) Mistake
 both-of (Err e) second = Err e
 both-of (Ok m) second = second-of m second
@@ -70,6 +73,7 @@ ends-of (a ∷ []) = Err Count
 ends-of (a ∷ b ∷ []) = pair-of a b
 ends-of (a ∷ b ∷ c ∷ rest) = Err Count
 
+-- what two numbers ask for
 abbrev pub of-pair : (ℕ → ℕ → Asked) → Result (ℕ × ℕ) Mistake → Result Asked Mistake
 of-pair what (Err e) = Err e
 of-pair what (Ok p) = Ok (what (p .0) (p .1))
@@ -86,10 +90,12 @@ table-of ws = of-pair table (sized-of ws)
 abbrev pub link-of : List (List ℕ) → Result Asked Mistake
 link-of ws = of-pair link (ends-of ws)
 
+-- one port before the others
 abbrev pub before : ℕ → Result (List ℕ) Mistake → Result (List ℕ) Mistake
 before p (Err e) = Err e
 before p (Ok ps) = Ok (p ∷ ps)
 
+-- a port, and then the others
 abbrev pub then-ports : Result ℕ Mistake → Result (List ℕ) Mistake → Result (List ℕ) Mistake
 then-ports (Err e) rest = Err e
 then-ports (Ok p) rest = before p rest
@@ -99,6 +105,7 @@ abbrev pub ports-of : List (List ℕ) → Result (List ℕ) Mistake
 ports-of [] = Ok []
 ports-of (w ∷ ws) = then-ports (port-of w) (ports-of ws)
 
+-- what a list of ports asks for
 abbrev pub of-ports : Result (List ℕ) Mistake → Result Asked Mistake
 of-ports (Err e) = Err e
 of-ports (Ok ps) = Ok (check ps)

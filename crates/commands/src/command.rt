@@ -1,12 +1,13 @@
 // What a line of a sheet asks for.
 ghost use mathlib.Core.Path.{_≡_};
 ghost use Rattle.std.specs.Vec.{made};
+ghost use Rattle.std.specs.declared.option.Option.the-variants.{Some};
 ghost use Rattle.std.specs.shelf.Text.{sameBytes};
-ghost use Rattle.commands.specs.Commands.{keyword-of, small-of, port-of, sized-of, ends-of, pair-of, complete-of, table-of, link-of, check-of, help-of, command-of};
 ghost use Rattle.commands.specs.Answers.{answer};
+ghost use Rattle.commands.specs.Commands.{keyword-of, small-of, port-of, pair-of, sized-of, ends-of};
+ghost use Rattle.commands.specs.Commands.{complete-of, table-of, link-of, check-of, help-of, command-of};
 ghost use Rattle.commands.specs.Told.{told};
 ghost use Rattle.commands.specs.Words.{bytes};
-ghost use Rattle.std.specs.declared.option.Option.the-variants.{Some};
 use crate::number::number;
 use std::alloc::AllocError;
 use std::alloc::Global;
@@ -56,7 +57,7 @@ pub impl fmt::Display for Mistake as MistakeDisplay {
     }
 }
 
-#[derive(Clone, Copy, PartialEq, Eq, Debug)]
+#[derive(Clone, Copy)]
 enum Keyword {
     Complete,
     Table,
@@ -65,6 +66,7 @@ enum Keyword {
     Help,
 }
 
+// Whether the word is this text, byte for byte.
 fn is(word: &[u8], text: &[u8]) -> bool
     ensures { λ r. ⌜ r ≡ sameBytes (now (word .entry)) (now (text .entry)) ⌝ }
 {

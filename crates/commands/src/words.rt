@@ -1,14 +1,15 @@
 // Cuts a line of a sheet into its words.
+ghost use mathlib.Core.List.{List, _++_};
 ghost use mathlib.Core.Path.{_≡_};
 ghost use Prim.Native.Nat.{ℕ};
-ghost use Rattle.std.specs.shelf.Lists.{All};
-ghost use mathlib.Core.List.{List, _++_};
 ghost use Rattle.std.specs.Of.Vec.{vec-items};
 ghost use Rattle.std.specs.Vec.{made};
+ghost use Rattle.std.specs.shelf.Lists.{All};
 ghost use Rattle.commands.specs.Words.{blank, uncommented, whole, bytes, words-of, Proper, spaced};
 use std::alloc::AllocError;
 use std::alloc::Global;
 
+// What parts words; a line's end may be written with a carriage return.
 fn is_blank(b: u8) -> bool
     ensures { λ r. ⌜ r ≡ blank b ⌝ }
 {
@@ -38,6 +39,7 @@ fn keep<'a>(out: &mut Vec<&'a [u8]>, word: &'a [u8]) -> Result<(), AllocError>
 }
 
 // The words of the line, in order; none where it is blank or all comment.
+// Each is proper, and a line of proper words, a space after each, gives just these.
 pub fn words<'a>(heap: Global, line: &'a [u8]) -> Result<Vec<&'a [u8]>, AllocError>
     ensures are { λ r. ⌜ made r (λ v. bytes (vec-items v) ≡ words-of (now (line .entry))) ⌝ }
     ensures proper { λ r. ⌜ made r (λ v. All Proper (bytes (vec-items v))) ⌝ }
