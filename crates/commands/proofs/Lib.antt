@@ -1,4 +1,5 @@
 mod Askings
 mod Cuts
+pub mod FirstLines
 mod Laws
 mod Readings

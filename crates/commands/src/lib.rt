@@ -1,6 +1,7 @@
 // Turns a line of a text sheet, as bytes, into the command that it asks for.
 
 pub mod command;
+pub mod lines;
 pub mod number;
 #[cfg(test)]
 mod tests;

@@ -55,6 +55,14 @@ closes (linking c) = (Some (answer.Table (c .size) (c .root) (length (c .links))
 closes (completed n r) = (None, completed n r)
 closes (tabled c) = (None, tabled c)
 
+-- what is due before a command is done: the line of a table, unless the command is one more link of it
+abbrev pub before : commands.Asked → Desk → Option Answer × Desk
+before (commands.complete n r) d = closes d
+before (commands.table n r) d = closes d
+before (commands.link a b) d = (None, d)
+before (commands.check ports) d = closes d
+before commands.help d = closes d
+
 -- the plan that the desk has
 abbrev pub layout-at : Desk → Option Layout
 layout-at empty = None

@@ -1,2 +1,3 @@
 pub mod Desks
+pub mod Lines
 pub mod Texts

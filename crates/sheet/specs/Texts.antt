@@ -9,6 +9,8 @@ use Rattle.model.specs.declared.fault.Layer.{Layer}
 use Rattle.model.specs.declared.fault.Layer.the-variants.{Record, Filing, Draw}
 use Rattle.model.specs.declared.tree.TreeCheck.{TreeCheck}
 use Rattle.model.specs.declared.tree.TreeCheck.the-variants.{Tree, Lost}
+use Rattle.sheet.specs.declared.answer.Misplaced.{Misplaced}
+use Rattle.sheet.specs.declared.answer.Misplaced.the-variants.{NoPlan, NoTable}
 use Rattle.sheet.specs.declared.answer.Answer.{Answer}
 use Rattle.sheet.specs.declared.answer.Answer.the-variants.{Silent, Complete, Table, Checked, Refused, Commands}
 
@@ -38,7 +40,7 @@ refused-text e = refusal-text (number-of e) (layer-word (layer-of e)) (place-of 
 
 -- a line for each command
 abbrev pub commands-text : List ℕ
-commands-text = codes "complete N root R\ntable N root R\nlink A B\ncheck P P ..\nhelp\n"
+commands-text = codes "complete N root R   the plan in which every unit is cabled to every other\ntable N root R      a plan that is told link by link; its links follow\nlink A B            one more link of the table, from A to B\ncheck P P ..        whether the ports, by rising unit, lead every unit to the root; - for the root's port\nhelp                these lines\n"
 
 -- the line of an answer with its newline, no bytes where there is nothing to write
 abbrev pub answer-text : Answer → List ℕ
@@ -48,3 +50,11 @@ answer-text (Table n r l) = table-text n r l
 answer-text (Checked t) = checked-text t
 answer-text (Refused e) = refused-text e
 answer-text Commands = commands-text
+
+-- what is wrong with a line, by its number
+abbrev pub line-text : ℕ → List ℕ → List ℕ
+line-text i why = codes "line " ++ (decimal i ++ (codes ": " ++ (why ++ codes "\n")))
+
+abbrev pub misplaced-word : Misplaced → List ℕ
+misplaced-word NoPlan = codes "there is no plan yet"
+misplaced-word NoTable = codes "a link follows its table"

@@ -1,6 +1,6 @@
 // What the desk has in hand between the lines of a sheet.
 ghost use mathlib.Core.Path.{_≡_};
-ghost use Rattle.sheet.specs.Desks.{desk-of, closes, begins-complete, Begins, adds-link, checks, layout-at, reported, Takes};
+ghost use Rattle.sheet.specs.Desks.{desk-of, empty, closes, before, begins-complete, Begins, adds-link, checks, layout-at, reported, Takes};
 ghost use Rattle.commands.specs.Answers.{asked};
 use crate::answer::Answer;
 use crate::answer::Misplaced;
@@ -31,7 +31,9 @@ pub struct Session {
 }
 
 impl Session {
-    pub fn new() -> Session {
+    pub fn new() -> Session
+        ensures { λ r. ⌜ desk-of r ≡ empty ⌝ }
+    {
         Session { hall: Hall::Empty }
     }
 
@@ -53,6 +55,16 @@ impl Session {
                 self.hall = other;
                 None
             }
+        }
+    }
+
+    // What is due before the command is done: the line of a table, unless the command is one more link of it.
+    pub fn before(&mut self, command: &Command) -> Option<Answer>
+        ensures { λ r. ⌜ (r, desk-of (now (self .exit))) ≡ before (asked (now (command .entry))) (desk-of (now (self .entry))) ⌝ }
+    {
+        match command {
+            Command::Link { .. } => None,
+            _ => self.close(),
         }
     }
 

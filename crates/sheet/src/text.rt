@@ -2,18 +2,18 @@
 ghost use mathlib.Core.Path.{_≡_};
 ghost use Rattle.std.specs.Of.String.{string-bytes};
 ghost use Rattle.std.specs.Vec.{made};
-ghost use Rattle.sheet.specs.Texts.{layer-word, complete-text, table-text, lost-text, refusal-text, refused-text, checked-text, commands-text, answer-text};
+ghost use Rattle.sheet.specs.Texts.{layer-word, complete-text, table-text, lost-text, refusal-text, refused-text, checked-text, commands-text, answer-text, line-text, misplaced-word};
+ghost use Rattle.commands.specs.Told.{told};
 use crate::answer::Answer;
 use crate::answer::Misplaced;
 use commands::command::Mistake;
-use commands::command::MistakeDisplay;
 use model::fault::DrawFault;
 use model::fault::Layer;
 use model::tree::TreeCheck;
 use std::alloc::AllocError;
 use std::alloc::Global;
 
-const COMMANDS: &str = "complete N root R\ntable N root R\nlink A B\ncheck P P ..\nhelp\n";
+const COMMANDS: &str = "complete N root R   the plan in which every unit is cabled to every other\ntable N root R      a plan that is told link by link; its links follow\nlink A B            one more link of the table, from A to B\ncheck P P ..        whether the ports, by rising unit, lead every unit to the root; - for the root's port\nhelp                these lines\n";
 
 fn layer_word(layer: Layer) -> &'static str
     ensures { λ r. ⌜ now r ≡ layer-word layer ⌝ }
@@ -82,4 +82,32 @@ pub fn answer_text(heap: Global, answer: Answer) -> Result<String, AllocError>
         Answer::Refused(fault) => refused_text(heap, fault),
         Answer::Commands => commands_text(heap),
     }
+}
+
+fn line_text(heap: Global, number: usize, why: &str) -> Result<String, AllocError>
+    ensures { λ r. ⌜ made r (λ s. string-bytes s ≡ line-text number (now (why .entry))) ⌝ }
+{
+    format!(heap, "line {number}: {why}\n")
+}
+
+// What is wrong with the line of this number.
+pub fn mistake_text(heap: Global, number: usize, mistake: Mistake) -> Result<String, AllocError>
+    ensures { λ r. ⌜ made r (λ s. string-bytes s ≡ line-text number (told mistake)) ⌝ }
+{
+    line_text(heap, number, mistake.text())
+}
+
+fn misplaced_word(misplaced: Misplaced) -> &'static str
+    ensures { λ r. ⌜ now r ≡ misplaced-word misplaced ⌝ }
+{
+    match misplaced {
+        Misplaced::NoPlan => "there is no plan yet",
+        Misplaced::NoTable => "a link follows its table",
+    }
+}
+
+pub fn misplaced_text(heap: Global, number: usize, misplaced: Misplaced) -> Result<String, AllocError>
+    ensures { λ r. ⌜ made r (λ s. string-bytes s ≡ line-text number (misplaced-word misplaced)) ⌝ }
+{
+    line_text(heap, number, misplaced_word(misplaced))
 }
