@@ -3,7 +3,7 @@ use model::fault::DrawFault;
 use model::tree::TreeCheck;
 
 #[derive(Clone, Copy)]
-pub enum Answer {
+pub(crate) enum Answer {
     // Taken, with nothing to write.
     Silent,
     Complete { size: u16, root: u16 },
@@ -16,7 +16,7 @@ pub enum Answer {
 
 // Why a command cannot be done where it stands.
 #[derive(Clone, Copy)]
-pub enum Misplaced {
+pub(crate) enum Misplaced {
     // It needs a plan, and there is none.
     NoPlan,
     // A link follows a table or another of its links.

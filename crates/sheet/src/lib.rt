@@ -1,6 +1,8 @@
 // Does the commands of a sheet, one after the other, and words the answers.
 
-pub mod answer;
+mod answer;
 pub mod line;
 pub mod session;
-pub mod text;
+#[cfg(test)]
+mod tests;
+mod text;

@@ -38,7 +38,7 @@ impl Session {
     }
 
     // Ends the links of a table under way. Its line is due then.
-    pub fn close(&mut self) -> Option<Answer>
+    pub(crate) fn close(&mut self) -> Option<Answer>
         ensures { λ r. ⌜ (r, desk-of (now (self .exit))) ≡ closes (desk-of (now (self .entry))) ⌝ }
     {
         match mem::replace(&mut self.hall, Hall::Empty) {
@@ -59,7 +59,7 @@ impl Session {
     }
 
     // What is due before the command is done: the line of a table, unless the command is one more link of it.
-    pub fn before(&mut self, command: &Command) -> Option<Answer>
+    pub(crate) fn before(&mut self, command: &Command) -> Option<Answer>
         ensures { λ r. ⌜ (r, desk-of (now (self .exit))) ≡ before (asked (now (command .entry))) (desk-of (now (self .entry))) ⌝ }
     {
         match command {
@@ -115,7 +115,7 @@ impl Session {
     }
 
     // Does the command. Where it is refused or out of place, nothing changes.
-    pub fn take(&mut self, heap: Global, command: &Command) -> Result<Answer, Misplaced>
+    pub(crate) fn take(&mut self, heap: Global, command: &Command) -> Result<Answer, Misplaced>
         ensures { λ r. ⌜ Takes (desk-of (now (self .entry))) (asked (now (command .entry))) r (desk-of (now (self .exit))) ⌝ }
     {
         match command {

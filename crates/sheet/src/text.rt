@@ -71,7 +71,7 @@ fn commands_text(heap: Global) -> Result<String, AllocError>
 }
 
 // The line of an answer, with its newline; no bytes for a silent one.
-pub fn answer_text(heap: Global, answer: Answer) -> Result<String, AllocError>
+pub(crate) fn answer_text(heap: Global, answer: Answer) -> Result<String, AllocError>
     ensures { λ r. ⌜ made r (λ s. string-bytes s ≡ answer-text answer) ⌝ }
 {
     match answer {
@@ -91,7 +91,7 @@ fn line_text(heap: Global, number: usize, why: &str) -> Result<String, AllocErro
 }
 
 // What is wrong with the line of this number.
-pub fn mistake_text(heap: Global, number: usize, mistake: Mistake) -> Result<String, AllocError>
+pub(crate) fn mistake_text(heap: Global, number: usize, mistake: Mistake) -> Result<String, AllocError>
     ensures { λ r. ⌜ made r (λ s. string-bytes s ≡ line-text number (told mistake)) ⌝ }
 {
     line_text(heap, number, mistake.text())
@@ -106,7 +106,7 @@ fn misplaced_word(misplaced: Misplaced) -> &'static str
     }
 }
 
-pub fn misplaced_text(heap: Global, number: usize, misplaced: Misplaced) -> Result<String, AllocError>
+pub(crate) fn misplaced_text(heap: Global, number: usize, misplaced: Misplaced) -> Result<String, AllocError>
     ensures { λ r. ⌜ made r (λ s. string-bytes s ≡ line-text number (misplaced-word misplaced)) ⌝ }
 {
     line_text(heap, number, misplaced_word(misplaced))
