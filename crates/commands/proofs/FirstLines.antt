@@ -17,6 +17,6 @@ cut-at text i within newline before = record {
 -- each line takes something away
 pub rest-shorter : (text line rest : List ℕ) → Cut text line rest → (length text ≡ 0 → ⊥) → length rest < length text
 rest-shorter text line rest cut some = ⊎-elim
-  (λ is. omega (arith, ap length is, length-append line (10 ∷ rest)))
-  (λ (is, none). let over : length rest ≡ 0 = ap length none in omega arith)
-  (cut .whole)
+    (λ is. omega (arith, ap length is, length-append line (10 ∷ rest)))
+    (λ (is, none). let over : length rest ≡ 0 = ap length none in omega arith)
+    (cut .whole)

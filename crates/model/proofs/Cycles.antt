@@ -40,18 +40,18 @@ module _ (f : ℕ → Option ℕ) where
   pub way-rest : (u : ℕ) (xs : List ℕ) (w y : ℕ) → Way f u xs w → among y (u ∷ xs) ≡ true → (ys : List ℕ) × Way f y ys w
   way-rest u [] w y way on = ⊎-elim (λ e. ([], subst (λ z. f z ≡ Some w) (sym e) way)) (λ on2. absurd (false≢true on2)) (among-cases y u [] on)
   way-rest u (x ∷ xs) w y (first, way) on = ⊎-elim
-    (λ e. (x ∷ xs, (subst (λ z. f z ≡ Some x) (sym e) first, way)))
-    (way-rest x xs w y way)
-    (among-cases y u (x ∷ xs) on)
+      (λ e. (x ∷ xs, (subst (λ z. f z ≡ Some x) (sym e) first, way)))
+      (way-rest x xs w y way)
+      (among-cases y u (x ∷ xs) on)
 
   -- the arrow of a vertex of a way leads to a later one, or to its end
   pub way-next : (u : ℕ) (xs : List ℕ) (w y z : ℕ) → Way f u xs w → among y (u ∷ xs) ≡ true → f y ≡ Some z → (among z xs ≡ true) ⊎ (z ≡ w)
   way-next u [] w y z way on arrow = ⊎-elim
-    (λ e. inr (same-some (f u) z w (subst (λ t. f t ≡ Some z) e arrow) way)) (λ on2. absurd (false≢true on2)) (among-cases y u [] on)
+      (λ e. inr (same-some (f u) z w (subst (λ t. f t ≡ Some z) e arrow) way)) (λ on2. absurd (false≢true on2)) (among-cases y u [] on)
   way-next u (x ∷ xs) w y z (first, way) on arrow = ⊎-elim
-    (λ e. inl (subst (λ t. among t (x ∷ xs) ≡ true) (same-some (f u) x z first (subst (λ t. f t ≡ Some z) e arrow)) (among-here x xs)))
-    (λ later. ⊎-elim (λ on2. inl (among-later z x xs on2)) inr (way-next x xs w y z way later arrow))
-    (among-cases y u (x ∷ xs) on)
+      (λ e. inl (subst (λ t. among t (x ∷ xs) ≡ true) (same-some (f u) x z first (subst (λ t. f t ≡ Some z) e arrow)) (among-here x xs)))
+      (λ later. ⊎-elim (λ on2. inl (among-later z x xs on2)) inr (way-next x xs w y z way later arrow))
+      (among-cases y u (x ∷ xs) on)
 
   -- a cycle's arrows stay on it
   pub cycle-next : (c : List ℕ) (y z : ℕ) → Cycle f c → among y c ≡ true → f y ≡ Some z → among z c ≡ true
@@ -105,9 +105,9 @@ same-or-apart f c d a b = by c (λ x on. on)
     by : (xs : List ℕ) → ((x : ℕ) → among x xs ≡ true → among x c ≡ true) → (c ≡ d) ⊎ ((v : ℕ) → among v xs ≡ true → among v d ≡ false)
     by [] sub = inr (λ v on. absurd (false≢true on))
     by (x ∷ xs) sub = ⊎-elim
-      (λ on. inl (cycles-meet f c d x a b (sub x (among-here x xs)) on))
-      (λ off. ⊎-elim inl (λ rest. inr (λ v on. ⊎-elim (λ e. subst (λ t. among t d ≡ false) (sym e) off) (rest v) (among-cases v x xs on))) (by xs (λ y on. sub y (among-later y x xs on))))
-      (cases-bool (among x d))
+        (λ on. inl (cycles-meet f c d x a b (sub x (among-here x xs)) on))
+        (λ off. ⊎-elim inl (λ rest. inr (λ v on. ⊎-elim (λ e. subst (λ t. among t d ≡ false) (sym e) off) (rest v) (among-cases v x xs on))) (by xs (λ y on. sub y (among-later y x xs on))))
+        (cases-bool (among x d))
 
 way-same : (f g : ℕ → Option ℕ) (u : ℕ) (xs : List ℕ) (w : ℕ) → ((y : ℕ) → among y (u ∷ xs) ≡ true → g y ≡ f y) → Way f u xs w → Way g u xs w
 way-same f g u [] w same way = same u (among-here u []) ∙ way

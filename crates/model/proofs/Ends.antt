@@ -99,9 +99,9 @@ module _ (f : ℕ → Option ℕ) (n : ℕ) (stays : Stays f n) where
           least : (d : List ℕ) (x : ℕ) → Cycle f d → among x d ≡ true → found .at ≤ x
           least [] x cyc on = absurd cyc
           least (w ∷ ws) x cyc on = ⊎-elim
-            (λ lt. absurd (none-some _ (w ∷ ws) (found .lower w lt) (cycle-found w ws cyc)))
-            (λ ge. let le : w ≤ x = cycle-low f w ws x cyc on in omega arith)
-            (cases-lt w (found .at))
+              (λ lt. absurd (none-some _ (w ∷ ws) (found .lower w lt) (cycle-found w ws cyc)))
+              (λ ge. let le : w ≤ x = cycle-low f w ws x cyc on in omega arith)
+              (cases-lt w (found .at))
 
 -- ---- the end
 
@@ -125,9 +125,9 @@ module _ (top : ℕ) (h g : Heights) (up : (v : ℕ) → h v ≤ g v) where
   room-less : (n v : ℕ) → v < n → h v < g v → h v < top → room top g n < room top h n
   room-less zero v below raised under = absurd (omega arith)
   room-less (suc n) v below raised under = ⊎-elim
-    (λ lt. omega (arith, up n, room-less n v lt raised under))
-    (λ ge. let e : v ≡ n = omega arith in omega (arith, subst (λ x. h x < g x) e raised, subst (λ x. h x < top) e under, room-falls n))
-    (cases-lt v n)
+      (λ lt. omega (arith, up n, room-less n v lt raised under))
+      (λ ge. let e : v ≡ n = omega arith in omega (arith, subst (λ x. h x < g x) e raised, subst (λ x. h x < top) e under, room-falls n))
+      (cases-lt v n)
 
 pub raise-up : (c : List ℕ) (h : Heights) (v : ℕ) → h v ≤ raise c h v
 raise-up c h v = by (among v c)
@@ -158,9 +158,10 @@ module _ (arrows : Arrows) (n top : ℕ) (within : Within arrows n top) where
     where
       Law : End → Type 0
       Law e = Lowest-pops arrows h (e .cycles) (e .heights) × Final arrows (e .heights)
+
       by : (o : Option (List ℕ)) → Cases o ((c : List ℕ) → Cycle (seen arrows h) c → ⊥) (λ c. Cycle (seen arrows h) c × Holds-lowest (seen arrows h) c)
-        → ((g : Heights) → room top g n < k → let e = popped-out arrows n k g in Lowest-pops arrows g (e .cycles) (e .heights) × Final arrows (e .heights))
-        → Law (if-some o (record { heights = h; cycles = [] }) (λ c. noting (coloured h c) (popped-out arrows n k (raise c h))))
+          → ((g : Heights) → room top g n < k → let e = popped-out arrows n k g in Lowest-pops arrows g (e .cycles) (e .heights) × Final arrows (e .heights))
+          → Law (if-some o (record { heights = h; cycles = [] }) (λ c. noting (coloured h c) (popped-out arrows n k (raise c h))))
       by None none rest = (λ v. refl, none)
       by (Some c) (cyc, low) rest =
           let (pops, fin) = rest (raise c h) (let less = pop-room h c cyc in omega arith) in
@@ -181,7 +182,7 @@ module _ (arrows : Arrows) where
   lowest-pops h (k ∷ ks) h2 (c, cyc, low, is, rest) = (c, cyc, is, lowest-pops (raise c h) ks h2 rest)
 
   pub end-one : (h : Heights) (ks ls : List Coloured) (h1 h2 : Heights) → Lowest-pops arrows h ks h1 → Lowest-pops arrows h ls h2 → Final arrows h1 → Final arrows h2
-    → (ks ≡ ls) × ((v : ℕ) → h1 v ≡ h2 v)
+      → (ks ≡ ls) × ((v : ℕ) → h1 v ≡ h2 v)
   end-one h [] [] h1 h2 p q fin fin2 = (refl, λ v. sym (p v) ∙ q v)
   end-one h [] (l ∷ ls) h1 h2 p (d, cyc, low, is, rest) fin fin2 = absurd (subst (Final arrows) (sym (fun-ext p)) fin d cyc)
   end-one h (k ∷ ks) [] h1 h2 (c, cyc, low, is, rest) q fin fin2 = absurd (subst (Final arrows) (sym (fun-ext q)) fin2 c cyc)

@@ -22,27 +22,29 @@ module _ (arrows : Arrows) where
 
   -- a cycle that stands now is popped by every sequence that ends, and might as well come first
   pub pull : (ds : List Coloured) (h h2 : Heights) (c : List ℕ) → Pops arrows h ds h2 → Final arrows h2 → Cycle (seen arrows h) c
-    → (es : List Coloured) × Shuffled ds (coloured h c ∷ es) × Pops arrows (raise c h) es h2
+      → (es : List Coloured) × Shuffled ds (coloured h c ∷ es) × Pops arrows (raise c h) es h2
   pull [] h h2 c same fin cyc = absurd (final-at h h2 same fin c cyc)
   pull (k ∷ ds) h h2 c (d, cyc-d, k-is, rest) fin cyc = by (same-or-apart (seen arrows h) c d cyc cyc-d) (pull ds (raise d h) h2 c rest fin)
     where
       Goal : Type 0
       Goal = (es : List Coloured) × Shuffled (k ∷ ds) (coloured h c ∷ es) × Pops arrows (raise c h) es h2
+
       by : (c ≡ d) ⊎ Apart c d
-        → (Cycle (seen arrows (raise d h)) c → (es : List Coloured) × Shuffled ds (coloured (raise d h) c ∷ es) × Pops arrows (raise c (raise d h)) es h2)
-        → Goal
+          → (Cycle (seen arrows (raise d h)) c → (es : List Coloured) × Shuffled ds (coloured (raise d h) c ∷ es) × Pops arrows (raise c (raise d h)) es h2)
+          → Goal
       by (inl e) later = (ds, subst (λ x. Shuffled (k ∷ ds) (x ∷ ds)) (k-is ∙ ap (coloured h) (sym e)) (shuffled-refl (k ∷ ds)), pops-at (raise d h) (raise c h) ds h2 (ap (λ x. raise x h) (sym e)) rest)
       by (inr apart) later =
           let (es, shuffled, pops) = later (cycle-kept arrows h c d apart cyc) in
           let first : Shuffled ds (coloured h c ∷ es) = subst (λ x. Shuffled ds (x ∷ es)) (colours-kept h c d apart) shuffled in
-          let back = apart-sym c d apart in
-          (k ∷ es,
-          shuffled-trans (k ∷ ds) (k ∷ coloured h c ∷ es) (coloured h c ∷ k ∷ es) (shuffled-cons k ds (coloured h c ∷ es) first) (swap-heads k (coloured h c) es),
-          (d, cycle-kept arrows h d c back cyc-d, k-is ∙ sym (colours-kept h d c back), pops-at (raise c (raise d h)) (raise d (raise c h)) es h2 (raise-comm c d h) pops))
+          let back = apart-sym c d apart in (
+            k ∷ es,
+            shuffled-trans (k ∷ ds) (k ∷ coloured h c ∷ es) (coloured h c ∷ k ∷ es) (shuffled-cons k ds (coloured h c ∷ es) first) (swap-heads k (coloured h c) es),
+            (d, cycle-kept arrows h d c back cyc-d, k-is ∙ sym (colours-kept h d c back), pops-at (raise c (raise d h)) (raise d (raise c h)) es h2 (raise-comm c d h) pops),
+          )
 
   -- what was popped on the way is a part of what an ended sequence popped
   pub abelian : (cs ds : List Coloured) (h h1 h2 : Heights) → Pops arrows h cs h1 → Pops arrows h ds h2 → Final arrows h2
-    → (rs : List Coloured) × Shuffled ds (cs ++ rs) × Pops arrows h1 rs h2
+      → (rs : List Coloured) × Shuffled ds (cs ++ rs) × Pops arrows h1 rs h2
   abelian [] ds h h1 h2 same pops fin = (ds, shuffled-refl ds, pops-at h h1 ds h2 (fun-ext same) pops)
   abelian (k ∷ cs) ds h h1 h2 (c, cyc, k-is, rest) pops fin =
       let (es, first, pops2) = pull ds h h2 c pops fin cyc in

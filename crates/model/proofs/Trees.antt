@@ -32,9 +32,9 @@ module _ (p : Layout) (sound : Sound p) (ports : List ℕ) where
 
   target-below : (v i w : ℕ) → p .target v i ≡ Some w → w < p .size
   target-below v i w is = ⊎-elim
-    (λ lt. let (x, some, below) = sound .target-some v i lt in subst (λ y. y < p .size) (same-some (p .target v i) x w some is) below)
-    (λ ge. absurd (none-some (p .target v i) w (sound .target-none v i ge) is))
-    (cases-lt i (p .degree v))
+      (λ lt. let (x, some, below) = sound .target-some v i lt in subst (λ y. y < p .size) (same-some (p .target v i) x w some is) below)
+      (λ ge. absurd (none-some (p .target v i) w (sound .target-none v i ge) is))
+      (cases-lt i (p .degree v))
 
   pub follow-below : (v w : ℕ) → follow p ports v ≡ Some w → w < p .size
   follow-below v w is = by (eqb v (p .root)) is
@@ -80,6 +80,7 @@ module _ (p : Layout) (sound : Sound p) (ports : List ℕ) where
     where
       clash : {v : ℕ} → _≡_ {A = Result TreeCheck DrawFault} (Ok Tree) (Ok (Lost v)) → ⊥
       clash e = let z : _≡_ {A = ℕ} 0 1 = cc in omega arith
+
       right : {e : DrawFault} → _≡_ {A = Result TreeCheck DrawFault} (Ok Tree) (Err e) → ⊥
       right e = let z : _≡_ {A = ℕ} 0 1 = cc in omega arith
 
@@ -95,8 +96,10 @@ module _ (p : Layout) (sound : Sound p) (ports : List ℕ) where
     where
       clash : _≡_ {A = Result TreeCheck DrawFault} (Ok (Lost v)) (Ok Tree) → ⊥
       clash e = let z : _≡_ {A = ℕ} 0 1 = cc in omega arith
+
       right : {e : DrawFault} → _≡_ {A = Result TreeCheck DrawFault} (Ok (Lost v)) (Err e) → ⊥
       right e = let z : _≡_ {A = ℕ} 0 1 = cc in omega arith
+
       same : {u : ℕ} → _≡_ {A = Result TreeCheck DrawFault} (Ok (Lost v)) (Ok (Lost u)) → v ≡ u
       same e = cc
 

@@ -73,8 +73,8 @@ module _ (f : ℕ → Option ℕ) where
   -- so none of its vertices comes again
   again : (u : ℕ) (xs : List ℕ) (v : ℕ) → Fresh v xs → Way f u xs v → Fresh u xs
   again u xs v fresh way = all-weaker (λ y. (ys : List ℕ) × (length ys < length xs) × Fresh v ys × Way f y ys v) (λ y. u ≡ y → ⊥)
-    (λ y (ys, less, clear, rest) same. let e : xs ≡ ys = way-once u xs ys v fresh clear way (subst (λ z. Way f z ys v) (sym same) rest) in omega (arith, ap length e))
-    xs (shorter u xs v fresh way)
+      (λ y (ys, less, clear, rest) same. let e : xs ≡ ys = way-once u xs ys v fresh clear way (subst (λ z. Way f z ys v) (sym same) rest) in omega (arith, ap length e))
+      xs (shorter u xs v fresh way)
 
   -- a way that meets its end at its end alone meets no vertex twice
   pub way-distinct : (u : ℕ) (xs : List ℕ) (v : ℕ) → Fresh v xs → Way f u xs v → Distinct (u ∷ xs)

@@ -48,7 +48,11 @@ impl DrawFault {
         ensures { λ r. ⌜ r ≡ place-of (now (self .entry)) ⌝ }
     {
         match self {
-            DrawFault::NoMemory | DrawFault::Limit | DrawFault::Link | DrawFault::Root | DrawFault::Short => 0,
+            DrawFault::NoMemory
+            | DrawFault::Limit
+            | DrawFault::Link
+            | DrawFault::Root
+            | DrawFault::Short => 0,
         }
     }
 }

@@ -67,9 +67,9 @@ module _ (p : Layout) (ports : List ℕ) (start : ℕ) where
     marks-reach reaches u s is = (
       omega (arith, w .newest u s is),
       ⊎-elim
-      (λ same. let (xs, way) = w .own u (subst (λ x. getD ms u None ≡ Some x) same is) in lead-along f u xs here (p .root) way reaches)
-      (λ apart. w .older u s is (let m : s ≤ start = w .newest u s is in omega arith))
-      (cases-eq s start),
+          (λ same. let (xs, way) = w .own u (subst (λ x. getD ms u None ≡ Some x) same is) in lead-along f u xs here (p .root) way reaches)
+          (λ apart. w .older u s is (let m : s ≤ start = w .newest u s is in omega arith))
+          (cases-eq s start),
     )
 
     pub reached : Reaches p ports here → Judged p ports start ms true
@@ -111,8 +111,10 @@ module _ (p : Layout) (ports : List ℕ) (start : ℕ) where
         where
           arrow : f here ≡ Some next
           arrow = follows ∙ target
+
           at-here : (u s : ℕ) → u ≡ here → getD (set ms here (Some start)) u None ≡ Some s → start ≡ s
           at-here u s same is = same-some _ start s (ap (λ x. getD (set ms here (Some start)) x None) same ∙ getD-set-same ms here (Some start) None within) is
+
           elsewhere : (u s : ℕ) → (u ≡ here → ⊥) → getD (set ms here (Some start)) u None ≡ Some s → getD ms u None ≡ Some s
           elsewhere u s other is = sym (getD-set-other ms here u (Some start) None other) ∙ is
 

@@ -68,7 +68,11 @@ fn due_text(heap: Global, due: Option<Answer>) -> Result<String, AllocError>
     }
 }
 
-fn answered_text(heap: Global, number: usize, answer: Result<Answer, Misplaced>) -> Result<String, AllocError>
+fn answered_text(
+    heap: Global,
+    number: usize,
+    answer: Result<Answer, Misplaced>,
+) -> Result<String, AllocError>
     ensures { λ r. ⌜ made r (λ s. string-bytes s ≡ answered-text number answer) ⌝ }
 {
     match answer {
@@ -78,7 +82,12 @@ fn answered_text(heap: Global, number: usize, answer: Result<Answer, Misplaced>)
 }
 
 // What is due, and then the answer.
-fn worded(heap: Global, number: usize, due: Option<Answer>, answer: Result<Answer, Misplaced>) -> Result<Reply, AllocError>
+fn worded(
+    heap: Global,
+    number: usize,
+    due: Option<Answer>,
+    answer: Result<Answer, Misplaced>,
+) -> Result<Reply, AllocError>
     ensures { λ r. ⌜ made r (λ a. shown a ≡ (due-text due ++ answered-text number answer, outcome-of answer)) ⌝ }
 {
     let mut text = due_text(heap, due)?;
@@ -88,7 +97,12 @@ fn worded(heap: Global, number: usize, due: Option<Answer>, answer: Result<Answe
     Ok(Reply { text, outcome })
 }
 
-fn obey(session: &mut Session, heap: Global, number: usize, command: &Command) -> Result<Reply, AllocError>
+fn obey(
+    session: &mut Session,
+    heap: Global,
+    number: usize,
+    command: &Command,
+) -> Result<Reply, AllocError>
     ensures { λ r. ⌜ made r (λ a. Obeyed (desk-of (now (session .entry))) number (asked (now (command .entry))) (shown a) (desk-of (now (session .exit)))) ⌝ }
 {
     let due = session.before(command);
@@ -97,7 +111,12 @@ fn obey(session: &mut Session, heap: Global, number: usize, command: &Command) -
 }
 
 // Does the line and words what is written for it. Where it fails for want of memory, the sheet cannot go on.
-pub fn do_line(session: &mut Session, heap: Global, number: usize, line: &[u8]) -> Result<Reply, AllocError>
+pub fn do_line(
+    session: &mut Session,
+    heap: Global,
+    number: usize,
+    line: &[u8],
+) -> Result<Reply, AllocError>
     ensures { λ r. ⌜ made r (λ a. Replied (desk-of (now (session .entry))) number (now (line .entry)) (shown a) (desk-of (now (session .exit)))) ⌝ }
 {
     let words = words(heap, line)?;

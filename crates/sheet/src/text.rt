@@ -13,7 +13,8 @@ use model::tree::TreeCheck;
 use std::alloc::AllocError;
 use std::alloc::Global;
 
-const COMMANDS: &str = "complete N root R   the plan in which every unit is cabled to every other\ntable N root R      a plan that is told link by link; its links follow\nlink A B            one more link of the table, from A to B\ncheck P P ..        whether the ports, by rising unit, lead every unit to the root; - for the root's port\nhelp                these lines\n";
+const COMMANDS: &str =
+    "complete N root R   the plan in which every unit is cabled to every other\ntable N root R      a plan that is told link by link; its links follow\nlink A B            one more link of the table, from A to B\ncheck P P ..        whether the ports, by rising unit, lead every unit to the root; - for the root's port\nhelp                these lines\n";
 
 fn layer_word(layer: Layer) -> &'static str
     ensures { λ r. ⌜ now r ≡ layer-word layer ⌝ }
@@ -52,7 +53,12 @@ fn refusal(heap: Global, number: u8, layer: &str, place: usize) -> Result<String
 fn refused_text(heap: Global, fault: DrawFault) -> Result<String, AllocError>
     ensures { λ r. ⌜ made r (λ s. string-bytes s ≡ refused-text fault) ⌝ }
 {
-    refusal(heap, fault.number(), layer_word(fault.layer()), fault.place())
+    refusal(
+        heap,
+        fault.number(),
+        layer_word(fault.layer()),
+        fault.place(),
+    )
 }
 
 fn checked_text(heap: Global, check: TreeCheck) -> Result<String, AllocError>
@@ -91,7 +97,11 @@ fn line_text(heap: Global, number: usize, why: &str) -> Result<String, AllocErro
 }
 
 // What is wrong with the line of this number.
-pub(crate) fn mistake_text(heap: Global, number: usize, mistake: Mistake) -> Result<String, AllocError>
+pub(crate) fn mistake_text(
+    heap: Global,
+    number: usize,
+    mistake: Mistake,
+) -> Result<String, AllocError>
     ensures { λ r. ⌜ made r (λ s. string-bytes s ≡ line-text number (told mistake)) ⌝ }
 {
     line_text(heap, number, mistake.text())
@@ -106,7 +116,11 @@ fn misplaced_word(misplaced: Misplaced) -> &'static str
     }
 }
 
-pub(crate) fn misplaced_text(heap: Global, number: usize, misplaced: Misplaced) -> Result<String, AllocError>
+pub(crate) fn misplaced_text(
+    heap: Global,
+    number: usize,
+    misplaced: Misplaced,
+) -> Result<String, AllocError>
     ensures { λ r. ⌜ made r (λ s. string-bytes s ≡ line-text number (misplaced-word misplaced)) ⌝ }
 {
     line_text(heap, number, misplaced_word(misplaced))

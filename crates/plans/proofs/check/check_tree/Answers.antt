@@ -12,10 +12,10 @@ lowest-lost-requires g c κs =
     let p = g .P·Plan .layout (c .args .plan .now) in
     let ports = c .args .ports .now in
     record {
-  enough = omega arith;
-  room = omega (arith, g .P·Plan .sound (c .args .plan .now) .size-most, ap length (c .no-marks-marks .ensures));
-  marked = subst (Marked p ports 0) (sym (c .no-marks-marks .ensures)) (unmarked p ports 1024);
-}
+      enough = omega arith;
+      room = omega (arith, g .P·Plan .sound (c .args .plan .now) .size-most, ap length (c .no-marks-marks .ensures));
+      marked = subst (Marked p ports 0) (sym (c .no-marks-marks .ensures)) (unmarked p ports 1024);
+    }
 
 pub returns : need.returns
 returns g c =

@@ -22,7 +22,7 @@ returns c =
     let v = c .in-Continue-words .words in
     let are = c .in-Continue-words .ensures tt .are in
     let read : command-of (words-of (c .args .line .now)) ≡ Err (c .in-Err .mistake) =
-      ap command-of (sym are) ∙ ap (λ s. command-of (bytes s)) (sym (c .as-slice .ensures .value)) ∙ sym (c .in-Continue-command .ensures tt) ∙ ap answer (c .in-Err .is) in
+    ap command-of (sym are) ∙ ap (λ s. command-of (bytes s)) (sym (c .as-slice .ensures .value)) ∙ sym (c .in-Continue-command .ensures tt) ∙ ap answer (c .in-Err .is) in
     a-mistake _ _ _ _ (c .in-Err .mistake)
     (λ none. false-eqb _ 0 (c .if-is-empty .ensures tt) (v .ok .0 ∙ same-count (v .items) (are ∙ none)))
     read (worded-as _ _ _ (c .in-Continue-text .ensures tt))
