@@ -3,6 +3,4 @@
 pub mod command;
 pub mod lines;
 pub mod number;
-#[cfg(test)]
-mod tests;
 pub mod words;

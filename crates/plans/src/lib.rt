@@ -6,5 +6,3 @@ pub mod check;
 pub mod complete;
 mod limits;
 pub mod table;
-#[cfg(test)]
-mod tests;

@@ -3,6 +3,4 @@
 mod answer;
 pub mod line;
 pub mod session;
-#[cfg(test)]
-mod tests;
 mod text;

@@ -1,13 +1,13 @@
 // The limits of plans, met and passed.
-use crate::any::AnyPlan;
-use crate::any::AnyPlanPlan;
-use crate::complete::Complete;
-use crate::complete::CompletePlan;
-use crate::table::Link;
-use crate::table::LinkDebug;
-use crate::table::LinkPartialEq;
-use crate::table::Table;
-use crate::table::TablePlan;
+use plans::any::AnyPlan;
+use plans::any::AnyPlanPlan;
+use plans::complete::Complete;
+use plans::complete::CompletePlan;
+use plans::table::Link;
+use plans::table::LinkDebug;
+use plans::table::LinkPartialEq;
+use plans::table::Table;
+use plans::table::TablePlan;
 use model::fault::DrawFault;
 use model::fault::DrawFaultDebug;
 use model::fault::DrawFaultPartialEq;

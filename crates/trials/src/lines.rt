@@ -1,12 +1,12 @@
 // Lines and what is made of them.
-use crate::command::Command;
-use crate::command::CommandPartialEq;
-use crate::command::Mistake;
-use crate::command::MistakeDisplay;
-use crate::command::MistakePartialEq;
-use crate::command::command_of;
-use crate::number::number;
-use crate::words::words;
+use commands::command::Command;
+use commands::command::CommandPartialEq;
+use commands::command::Mistake;
+use commands::command::MistakeDisplay;
+use commands::command::MistakePartialEq;
+use commands::command::command_of;
+use commands::number::number;
+use commands::words::words;
 use std::alloc::AllocError;
 use std::alloc::Global;
 use std::test::*;
