@@ -1,5 +1,4 @@
 mod Askings
 mod Cuts
-pub mod FirstLines
 mod Laws
 mod Readings

@@ -1,6 +1,5 @@
 // Turns a line of a text sheet, as bytes, into the command that it asks for.
 
 pub mod command;
-pub mod lines;
 pub mod number;
 pub mod words;

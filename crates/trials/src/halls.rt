@@ -1,4 +1,8 @@
 // The limits of plans, met and passed.
+use model::fault::DrawFault;
+use model::fault::DrawFaultDebug;
+use model::fault::DrawFaultPartialEq;
+use model::plan::Plan;
 use plans::any::AnyPlan;
 use plans::any::AnyPlanPlan;
 use plans::complete::Complete;
@@ -8,10 +12,6 @@ use plans::table::LinkDebug;
 use plans::table::LinkPartialEq;
 use plans::table::Table;
 use plans::table::TablePlan;
-use model::fault::DrawFault;
-use model::fault::DrawFaultDebug;
-use model::fault::DrawFaultPartialEq;
-use model::plan::Plan;
 use std::test::*;
 
 #[test]
