@@ -19,7 +19,7 @@ use std::alloc::AllocError;
 use std::alloc::Global;
 
 // How a line went.
-#[derive(Clone, Copy, PartialEq, Eq, Debug)]
+#[derive(Clone, Copy, PartialEq, Eq)]
 pub enum Outcome {
     Fine,
     Refused,
