@@ -4,16 +4,27 @@ use sheet::line::OutcomePartialEq;
 use sheet::line::do_line;
 use sheet::line::last_words;
 use sheet::session::Session;
+use std::alloc::Global;
 use std::test::*;
 
+fn answers(
+    session: &mut Session,
+    heap: Global,
+    line: &str,
+    text: &str,
+    outcome: Outcome,
+) -> Result<(), Fail> {
+    let reply = do_line(session, heap, 7, line.as_bytes())?;
+    check_eq(reply.text.as_str(), text)?;
+    check(reply.outcome == outcome)
+}
+
 // Does the lines in turn, each of which must be answered as it says, and ends the sheet.
-fn answers(rt: LibcRuntime, cases: &[(&str, &str, Outcome)], last: &str) -> Result<(), Fail> {
+fn answers_all(rt: LibcRuntime, cases: &[(&str, &str, Outcome)], last: &str) -> Result<(), Fail> {
     let heap = rt.alloc();
     let mut session = Session::new();
     for (line, text, outcome) in cases {
-        let reply = do_line(&mut session, heap, 7, line.as_bytes())?;
-        check_eq(reply.text.as_str(), *text)?;
-        check(reply.outcome == *outcome)?;
+        answers(&mut session, heap, line, text, *outcome)?;
     }
     check_eq(last_words(&mut session, heap)?.as_str(), last)
 }
@@ -45,7 +56,7 @@ fn bad_lines(rt: LibcRuntime) -> Result<(), Fail> {
         ),
         ("  # only a comment", "", Outcome::Fine),
     ];
-    answers(rt, &cases, "")
+    answers_all(rt, &cases, "")
 }
 
 #[test]
@@ -67,5 +78,5 @@ fn tables_end(rt: LibcRuntime) -> Result<(), Fail> {
         ),
         ("table 1 root 0", "", Outcome::Fine),
     ];
-    answers(rt, &cases, "plan table 1 root 0 links 0\n")
+    answers_all(rt, &cases, "plan table 1 root 0 links 0\n")
 }
