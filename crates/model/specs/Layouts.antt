@@ -1,7 +1,9 @@
 -- What a plan is: vertices below a size, one of them the root, and at each vertex ports that lead to vertices. Assumes nothing.
 use mathlib.Core.Path.{_≡_}
+use mathlib.Core.Bool.{Bool}
 use mathlib.Core.List.{List}
 use Prim.Native.Nat.{ℕ, _≤_, _<_}
+use lib.Dec.{eqb}
 use lib.ListN.{length}
 use Rattle.std.specs.shelf.Maps.{nth}
 use Rattle.std.specs.declared.option.Option.{Option}
@@ -13,6 +15,10 @@ pub record Layout : Type 0 where
   pub root : ℕ
   pub degree : ℕ → ℕ
   pub target : ℕ → ℕ → Option ℕ
+
+-- whether v is the root
+abbrev pub is-root : Layout → ℕ → Bool
+is-root p v = eqb v (p .root)
 
 -- what every plan keeps: 1 to 1,024 vertices, the root among them, at most 1,023 ports at a vertex and none at a vertex that it lacks,
 -- and a target among the vertices exactly at the ports that there are

@@ -1,8 +1,10 @@
+pub mod Arrows
 pub mod Cycles
 pub mod Distinct
 pub mod Ends
 pub mod Faults
 pub mod Layouts
+pub mod Orders
 pub mod Picks
 pub mod Trees
 pub mod Ways

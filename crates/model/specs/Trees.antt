@@ -9,7 +9,7 @@ use Rattle.std.specs.declared.option.Option.{Option}
 use Rattle.std.specs.declared.option.Option.the-variants.{Some, None}
 use Rattle.std.specs.declared.result.Result.{Result}
 use Rattle.std.specs.declared.result.Result.the-variants.{Ok, Err}
-use Rattle.model.specs.Layouts.{Layout}
+use Rattle.model.specs.Layouts.{Layout, is-root}
 use Rattle.model.specs.Picks.{passes, lowest}
 use Rattle.model.specs.Ways.{Leads}
 use Rattle.model.specs.declared.fault.DrawFault.{DrawFault}
@@ -19,7 +19,7 @@ use Rattle.model.specs.declared.tree.TreeCheck.the-variants.{Tree, Lost}
 
 -- where the listed port of v leads; nowhere from the root, whose entry is not read, nor by a port that v lacks
 abbrev pub follow : Layout → List ℕ → ℕ → Option ℕ
-follow p ports v = cond (eqb v (p .root)) None (p .target v (getD ports v 0))
+follow p ports v = cond (is-root p v) None (p .target v (getD ports v 0))
 
 -- whether at most k arrows lead from v to w
 abbrev pub comes-to : (ℕ → Option ℕ) → ℕ → ℕ → ℕ → Bool

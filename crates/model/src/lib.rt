@@ -1,5 +1,8 @@
-// The vocabulary of drain trees: what a plan is, what checking a tree answers, and the faults of plans and draws.
+// The vocabulary of drain trees: plans, arrow sources, orders, what draws are made of, what checking a tree answers, and faults.
 
+pub mod draw;
 pub mod fault;
+pub mod order;
 pub mod plan;
+pub mod source;
 pub mod tree;
