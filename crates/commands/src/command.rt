@@ -37,7 +37,7 @@ pub enum Mistake {
 }
 
 impl Mistake {
-    pub fn text(&self) -> &'static str
+    fn text(&self) -> &'static str
         ensures { λ r. ⌜ now r ≡ told (now (self .entry)) ⌝ }
     {
         match self {

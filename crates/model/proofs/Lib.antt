@@ -5,5 +5,6 @@ pub mod Pigeons
 pub mod Popping
 pub mod Reaching
 pub mod Sounds
+pub mod Trails
 pub mod Trees
 pub mod Ways

@@ -40,7 +40,7 @@ module _ (f : ℕ → Option ℕ) where
   no-lead u w apart none (inr ([], last)) = none-some (f u) w none last
   no-lead u w apart none (inr (x ∷ xs, (first, way))) = none-some (f u) x none first
 
-  way-join : (u : ℕ) (xs : List ℕ) (v : ℕ) (ys : List ℕ) (w : ℕ) → Way f u xs v → Way f v ys w → Way f u (xs ++ v ∷ ys) w
+  pub way-join : (u : ℕ) (xs : List ℕ) (v : ℕ) (ys : List ℕ) (w : ℕ) → Way f u xs v → Way f v ys w → Way f u (xs ++ v ∷ ys) w
   way-join u [] v ys w first rest = (first, rest)
   way-join u (x ∷ xs) v ys w (first, way) rest = (first, way-join x xs v ys w way rest)
 

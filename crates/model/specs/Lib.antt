@@ -1,6 +1,7 @@
 pub mod Arrows
 pub mod Cycles
 pub mod Distinct
+pub mod Draws
 pub mod Ends
 pub mod Faults
 pub mod Layouts

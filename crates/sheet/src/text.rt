@@ -7,6 +7,7 @@ ghost use Rattle.commands.specs.Told.{told};
 use crate::answer::Answer;
 use crate::answer::Misplaced;
 use commands::command::Mistake;
+use commands::command::MistakeDisplay;
 use model::fault::DrawFault;
 use model::fault::Layer;
 use model::tree::TreeCheck;
@@ -104,7 +105,7 @@ pub(crate) fn mistake_text(
 ) -> Result<String, AllocError>
     ensures { λ r. ⌜ made r (λ s. string-bytes s ≡ line-text number (told mistake)) ⌝ }
 {
-    line_text(heap, number, mistake.text())
+    format!(heap, "line {number}: {mistake}\n")
 }
 
 fn misplaced_word(misplaced: Misplaced) -> &'static str
