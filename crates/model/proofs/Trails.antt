@@ -10,7 +10,7 @@ use lib.ListN.{length, length-append}
 use Rattle.std.specs.Options.{Cases}
 use Rattle.std.specs.shelf.Lists.{All}
 use Rattle.std.proofs.shelf.Elements.{all-push, all-weaker, all-append}
-use Rattle.std.proofs.shelf.Tests.{eqb-true, eqb-false, eq-eqb, false≢true, cases-bool, both-ways}
+use Rattle.std.proofs.shelf.Tests.{eqb-true, eqb-false, eq-eqb, false≢true, cases-bool, cases-lt, both-ways}
 use Rattle.std.specs.declared.option.Option.{Option}
 use Rattle.std.specs.declared.option.Option.the-variants.{Some, None}
 use Rattle.model.specs.Cycles.{among, Cycle}
@@ -124,3 +124,161 @@ module _ (f : ℕ → Option ℕ) where
   turned-way m u xs (ys, is, way, inr (us, some, to-m)) =
       (ys ++ u ∷ us, (λ i. is i ++ some i), way-join f m ys u us m way to-m,
       λ x on. ⊎-elim (λ left. inr (ys, is, left)) (λ right. inl (subst (λ l. among x l ≡ true) (sym some) right)) (among-parts x ys (u ∷ us) on))
+
+least-low : (v : ℕ) (xs : List ℕ) → (least v xs ≤ v) × All (λ y. least v xs ≤ y) xs
+least-low v [] = (omega arith, tt)
+least-low v (x ∷ xs) =
+    let (low, rest) = least-low (min v x) xs in
+    (omega (arith, low), (omega (arith, low), rest))
+
+least-on : (v : ℕ) (xs : List ℕ) → among (least v xs) (v ∷ xs) ≡ true
+least-on v [] = among-here v []
+least-on v (x ∷ xs) = ⊎-elim
+  (λ is-min. ⊎-elim
+    (λ le. let e : least (min v x) xs ≡ v = omega arith in subst (λ z. among z (v ∷ x ∷ xs) ≡ true) (sym e) (among-here v (x ∷ xs)))
+    (λ gt. let e : least (min v x) xs ≡ x = omega arith in subst (λ z. among z (v ∷ x ∷ xs) ≡ true) (sym e) (among-later x v (x ∷ xs) (among-here x xs)))
+    (cases-lt v x))
+  (λ later. among-later (least (min v x) xs) v (x ∷ xs) (among-later (least (min v x) xs) x xs later))
+  (among-cases (least (min v x) xs) (min v x) xs (least-on (min v x) xs))
+
+least-le : (u : ℕ) (xs : List ℕ) (x : ℕ) → among x (u ∷ xs) ≡ true → least u xs ≤ x
+least-le u xs x on = let (low, rest) = least-low u xs in among-all (λ y. least u xs ≤ y) x (u ∷ xs) (low, rest) on
+
+-- turning a loop neither adds nor drops a vertex
+pub turned-among : (l : List ℕ) (x : ℕ) → among x (turned l) ≡ true → among x l ≡ true
+turned-among [] x on = on
+turned-among (u ∷ xs) x on =
+    let m = least u xs in
+    subst (λ l. among x l ≡ true) (parts m (u ∷ xs)) (⊎-elim (among-right x (up-to m (u ∷ xs)) (from-on m (u ∷ xs))) (among-left x (up-to m (u ∷ xs)) (from-on m (u ∷ xs))) (among-parts x (from-on m (u ∷ xs)) (up-to m (u ∷ xs)) on))
+
+pub among-turned : (l : List ℕ) (x : ℕ) → among x l ≡ true → among x (turned l) ≡ true
+among-turned [] x on = on
+among-turned (u ∷ xs) x on =
+    let m = least u xs in
+    ⊎-elim (among-right x (from-on m (u ∷ xs)) (up-to m (u ∷ xs))) (among-left x (from-on m (u ∷ xs)) (up-to m (u ∷ xs)))
+    (among-parts x (up-to m (u ∷ xs)) (from-on m (u ∷ xs)) (subst (λ l. among x l ≡ true) (sym (parts m (u ∷ xs))) on))
+
+-- a loop that meets no vertex twice, from its lowest vertex on, is a cycle
+pub turned-cycle : (f : ℕ → Option ℕ) (u : ℕ) (xs : List ℕ) → Distinct (u ∷ xs) → Way f u xs u → Cycle f (turned (u ∷ xs))
+turned-cycle f u xs distinct way =
+    let m = least u xs in
+    let (rest, is, around, members) = turned-way f m u xs (cut-at f m u xs u (least-on u xs) way) in
+    subst (Cycle f) (sym is) (around, all-among (λ x. m < x) rest (λ x on.
+      let other : x ≡ m → ⊥ = λ e. ⊎-elim
+        (λ before. among-all (λ y. m ≡ y → ⊥) x (up-to m (u ∷ xs)) (up-to-off m (u ∷ xs)) before (sym e))
+        (λ (ys, from, later). among-all (λ y. m ≡ y → ⊥) x ys (from-fresh m (u ∷ xs) ys distinct from) later (sym e))
+        (members x on) in
+      let low : m ≤ x = least-le u xs x (turned-among (u ∷ xs) x (subst (λ l. among x l ≡ true) (sym is) (among-later x m rest on))) in
+      omega arith))
+
+-- ---- the trail
+
+-- following the arrows from x comes to a vertex without one, or to a settled vertex
+abbrev pub Leaves : (ℕ → Option ℕ) → (ℕ → Bool) → ℕ → Type 0
+Leaves f settled x = (y : ℕ) × Leads f x y × ((f y ≡ None) ⊎ (settled y ≡ true))
+
+-- an arrow from the path leads to it or to a settled vertex
+abbrev pub Closed-under : (ℕ → Option ℕ) → (ℕ → Bool) → List ℕ → Type 0
+Closed-under f settled path = (x y : ℕ) → among x path ≡ true → f x ≡ Some y → (among y path ≡ true) ⊎ (settled y ≡ true)
+
+-- the trail came round: the loop is on the path, and leads from its first vertex back to it
+pub record Round (f : ℕ → Option ℕ) (path l : List ℕ) : Type 0 where
+  pub first : ℕ
+  pub rest : List ℕ
+  pub is : l ≡ first ∷ rest
+  pub way : Way f first rest first
+  pub on-path : (x : ℕ) → among x l ≡ true → among x path ≡ true
+  pub distinct : Distinct l
+
+-- what a trail tells: its vertices are open and different; it came round, or it leaves
+pub record Told (f : ℕ → Option ℕ) (settled : ℕ → Bool) (t : Trail) : Type 0 where
+  pub all-open : (x : ℕ) → among x (t .path) ≡ true → settled x ≡ false
+  pub distinct : Distinct (t .path)
+  pub ends : Cases (t .loop) (((x : ℕ) → among x (t .path) ≡ true → Leaves f settled x) × Closed-under f settled (t .path)) (λ l. Round f (t .path) l)
+
+module _ (f : ℕ → Option ℕ) (settled : ℕ → Bool) (n : ℕ) (below : (u w : ℕ) → f u ≡ Some w → u < n) where
+  -- the path leads to v
+  abbrev Chain : List ℕ → ℕ → Type 0
+  Chain [] v = Unit {0}
+  Chain (x ∷ xs) v = Way f x xs v
+
+  chain-more : (path : List ℕ) (v w : ℕ) → Chain path v → f v ≡ Some w → Chain (path ++ v ∷ []) w
+  chain-more [] v w chain arrow = arrow
+  chain-more (x ∷ xs) v w chain arrow = way-more f x xs v w chain arrow
+
+  chain-leads : (path : List ℕ) (v : ℕ) → Chain path v → (x : ℕ) → among x path ≡ true → Leads f x v
+  chain-leads [] v chain x on = absurd (false≢true on)
+  chain-leads (u ∷ us) v chain x on = inr (way-rest f u us v x chain on)
+
+  chain-next : (path : List ℕ) (v : ℕ) → Chain path v → (x y : ℕ) → among x path ≡ true → f x ≡ Some y → (among y path ≡ true) ⊎ (y ≡ v)
+  chain-next [] v chain x y on arrow = absurd (false≢true on)
+  chain-next (u ∷ us) v chain x y on arrow = ⊎-elim (λ later. inl (among-later y u us later)) inr (way-next f u us v x y chain on arrow)
+
+  chain-below : (path : List ℕ) (v : ℕ) → Chain path v → All (λ x. x < n) path
+  chain-below [] v chain = tt
+  chain-below (u ∷ us) v chain = all-among (λ x. x < n) (u ∷ us) (λ x on. from-way x (way-rest f u us v x chain on))
+    where
+      from-way : (x : ℕ) → (ys : List ℕ) × Way f x ys v → x < n
+      from-way x ([], way) = below x v way
+      from-way x (y ∷ ys, (arrow, way)) = below x y arrow
+
+  distinct-from : (m : ℕ) (xs : List ℕ) → Distinct xs → Distinct (from-on m xs)
+  distinct-from m [] d = tt
+  distinct-from m (x ∷ xs) (fresh, d) = by (eqb m x) (distinct-from m xs d)
+    where
+      by : (b : Bool) → Distinct (from-on m xs) → Distinct (cond b (x ∷ xs) (from-on m xs))
+      by true rest = (fresh, d)
+      by false rest = rest
+
+  round : (path : List ℕ) (v : ℕ) → Chain path v → Distinct path → among v path ≡ true → Round f path (from-on v path)
+  round [] v chain d on = absurd (false≢true on)
+  round (u ∷ us) v chain d on =
+      let (ys, is, way, before) = cut-at f v u us v on chain in
+      record {
+        first = v;
+        rest = ys;
+        is = is;
+        way = way;
+        on-path = λ x there. subst (λ l. among x l ≡ true) (parts v (u ∷ us)) (among-right x (up-to v (u ∷ us)) (from-on v (u ∷ us)) there);
+        distinct = distinct-from v (u ∷ us) d;
+      }
+
+  -- where the trail stops at a settled vertex
+  stops-settled : (path : List ℕ) (v : ℕ) → Chain path v → Distinct path → ((x : ℕ) → among x path ≡ true → settled x ≡ false) → settled v ≡ true → Told f settled (record { path = path; loop = None })
+  stops-settled path v chain d opens shut = record {
+    all-open = opens;
+    distinct = d;
+    ends = (
+      λ x on. (v, chain-leads path v chain x on, inr shut),
+      λ x y on arrow. ⊎-elim inl (λ e. inr (subst (λ z. settled z ≡ true) (sym e) shut)) (chain-next path v chain x y on arrow),
+    );
+  }
+
+  open-push : (path : List ℕ) (v : ℕ) → ((x : ℕ) → among x path ≡ true → settled x ≡ false) → settled v ≡ false → (x : ℕ) → among x (path ++ v ∷ []) ≡ true → settled x ≡ false
+  open-push path v opens open-v x on = ⊎-elim (opens x) (λ e. subst (λ z. settled z ≡ false) (sym e) open-v) (among-push x v path on)
+
+  -- where it stops behind a vertex without an arrow
+  stops-dry : (path : List ℕ) (v : ℕ) → Chain path v → Distinct path → ((x : ℕ) → among x path ≡ true → settled x ≡ false) → settled v ≡ false → among v path ≡ false → f v ≡ None → Told f settled (record { path = path ++ v ∷ []; loop = None })
+  stops-dry path v chain d opens open-v off none = record {
+    all-open = open-push path v opens open-v;
+    distinct = distinct-push path v d (off-fresh v path off);
+    ends = (
+      λ x on. (v, ⊎-elim (chain-leads path v chain x) inl (among-push x v path on), inl none),
+      λ x y on arrow. ⊎-elim
+        (λ there. ⊎-elim (λ next. inl (among-left y path (v ∷ []) next)) (λ e. inl (subst (λ z. among z (path ++ v ∷ []) ≡ true) (sym e) (among-right v path (v ∷ []) (among-here v [])))) (chain-next path v chain x y there arrow))
+        (λ e. absurd (none-some (f v) y none (subst (λ z. f z ≡ Some y) e arrow)))
+        (among-push x v path on),
+    );
+  }
+
+  pub told : (k : ℕ) (path : List ℕ) (v : ℕ) → n < length path + k → Chain path v → Distinct path → ((x : ℕ) → among x path ≡ true → settled x ≡ false) → Told f settled (trail-on f settled k path v)
+  told zero path v room chain d opens = let few : length path ≤ n = pigeons n path (chain-below path v chain) d in absurd (omega arith)
+  told (suc k) path v room chain d opens = by (settled v) refl (among v path) refl (f v) refl (λ w c e o. told k (path ++ v ∷ []) w (let long : length (path ++ v ∷ []) ≡ length path + 1 = length-append path (v ∷ []) in omega arith) c e o)
+    where
+      by : (s : Bool) → settled v ≡ s → (b : Bool) → among v path ≡ b → (o : Option ℕ) → f v ≡ o
+        → ((w : ℕ) → Chain (path ++ v ∷ []) w → Distinct (path ++ v ∷ []) → ((x : ℕ) → among x (path ++ v ∷ []) ≡ true → settled x ≡ false) → Told f settled (trail-on f settled k (path ++ v ∷ []) w))
+        → Told f settled (cond s (record { path = path; loop = None }) (cond b (record { path = path; loop = Some (from-on v path) }) (if-some o (record { path = path ++ v ∷ []; loop = None }) (λ w. trail-on f settled k (path ++ v ∷ []) w))))
+      by true shut b is o arrow rest = stops-settled path v chain d opens shut
+      by false open-v true on o arrow rest = record { all-open = opens; distinct = d; ends = round path v chain d on }
+      by false open-v false off None none rest = stops-dry path v chain d opens open-v off none
+      by false open-v false off (Some w) arrow rest = rest w (chain-more path v w chain arrow) (distinct-push path v d (off-fresh v path off)) (open-push path v opens open-v)
