@@ -27,9 +27,9 @@ use Rattle.model.proofs.Ways.{way-more, way-join, none-some}
 pub among-push : (v x : ℕ) (xs : List ℕ) → among v (xs ++ x ∷ []) ≡ true → (among v xs ≡ true) ⊎ (v ≡ x)
 among-push v x [] on = ⊎-elim inr (λ never. absurd (false≢true never)) (among-cases v x [] on)
 among-push v x (y ∷ xs) on = ⊎-elim
-  (λ e. inl (subst (λ z. among z (y ∷ xs) ≡ true) (sym e) (among-here y xs)))
-  (λ later. ⊎-elim (λ in-xs. inl (among-later v y xs in-xs)) inr (among-push v x xs later))
-  (among-cases v y (xs ++ x ∷ []) on)
+    (λ e. inl (subst (λ z. among z (y ∷ xs) ≡ true) (sym e) (among-here y xs)))
+    (λ later. ⊎-elim (λ in-xs. inl (among-later v y xs in-xs)) inr (among-push v x xs later))
+    (among-cases v y (xs ++ x ∷ []) on)
 
 pub among-left : (v : ℕ) (xs ys : List ℕ) → among v xs ≡ true → among v (xs ++ ys) ≡ true
 among-left v [] ys on = absurd (false≢true on)
@@ -42,9 +42,9 @@ among-right v (x ∷ xs) ys on = among-later v x (xs ++ ys) (among-right v xs ys
 pub among-parts : (v : ℕ) (xs ys : List ℕ) → among v (xs ++ ys) ≡ true → (among v xs ≡ true) ⊎ (among v ys ≡ true)
 among-parts v [] ys on = inr on
 among-parts v (x ∷ xs) ys on = ⊎-elim
-  (λ e. inl (subst (λ z. among z (x ∷ xs) ≡ true) (sym e) (among-here x xs)))
-  (λ later. ⊎-elim (λ left. inl (among-later v x xs left)) inr (among-parts v xs ys later))
-  (among-cases v x (xs ++ ys) on)
+    (λ e. inl (subst (λ z. among z (x ∷ xs) ≡ true) (sym e) (among-here x xs)))
+    (λ later. ⊎-elim (λ left. inl (among-later v x xs left)) inr (among-parts v xs ys later))
+    (among-cases v x (xs ++ ys) on)
 
 off-fresh : (v : ℕ) (xs : List ℕ) → among v xs ≡ false → Fresh v xs
 off-fresh v xs off = all-among (λ y. v ≡ y → ⊥) xs (λ y on e. both-ways _ off (subst (λ z. among z xs ≡ true) (sym e) on))
@@ -92,7 +92,7 @@ module _ (f : ℕ → Option ℕ) where
   -- u and xs lead to z: m is among them, so they are cut before m
   abbrev Cut-at : ℕ → ℕ → List ℕ → ℕ → Type 0
   Cut-at m u xs z = (ys : List ℕ) × (from-on m (u ∷ xs) ≡ m ∷ ys) × Way f m ys z
-    × (((up-to m (u ∷ xs) ≡ []) × (m ≡ u)) ⊎ ((us : List ℕ) × (up-to m (u ∷ xs) ≡ u ∷ us) × Way f u us m))
+      × (((up-to m (u ∷ xs) ≡ []) × (m ≡ u)) ⊎ ((us : List ℕ) × (up-to m (u ∷ xs) ≡ u ∷ us) × Way f u us m))
 
   cut-here : (m u : ℕ) (xs : List ℕ) (z : ℕ) → m ≡ u → Way f u xs z → Cut-at m u xs z
   cut-here m u xs z e way =
@@ -100,11 +100,15 @@ module _ (f : ℕ → Option ℕ) where
       (xs, ap (λ b. cond b (u ∷ xs) (from-on m xs)) test ∙ ap (λ t. t ∷ xs) (sym e), subst (λ t. Way f t xs z) (sym e) way, inl (ap (λ b. cond b [] (u ∷ up-to m xs)) test, e))
 
   cut-later : (m u x : ℕ) (xs : List ℕ) (z : ℕ) → eqb m u ≡ false → f u ≡ Some x → Cut-at m x xs z → Cut-at m u (x ∷ xs) z
-  cut-later m u x xs z apart arrow (ys, is, way, before) =
-      (ys, ap (λ b. cond b (u ∷ x ∷ xs) (from-on m (x ∷ xs))) apart ∙ is, way, inr (⊎-elim
+  cut-later m u x xs z apart arrow (ys, is, way, before) = (
+    ys,
+    ap (λ b. cond b (u ∷ x ∷ xs) (from-on m (x ∷ xs))) apart ∙ is,
+    way,
+    inr (⊎-elim
         (λ (none, e). ([], whole ∙ ap (λ l. u ∷ l) none, arrow ∙ ap Some (sym e)))
         (λ (us, some, to-m). (x ∷ us, whole ∙ ap (λ l. u ∷ l) some, (arrow, to-m)))
-        before))
+        before),
+  )
     where
       whole : up-to m (u ∷ x ∷ xs) ≡ u ∷ up-to m (x ∷ xs)
       whole = ap (λ b. cond b [] (u ∷ up-to m (x ∷ xs))) apart
@@ -112,18 +116,21 @@ module _ (f : ℕ → Option ℕ) where
   pub cut-at : (m u : ℕ) (xs : List ℕ) (z : ℕ) → among m (u ∷ xs) ≡ true → Way f u xs z → Cut-at m u xs z
   cut-at m u [] z on way = ⊎-elim (λ e. cut-here m u [] z e way) (λ never. absurd (false≢true never)) (among-cases m u [] on)
   cut-at m u (x ∷ xs) z on (arrow, way) = ⊎-elim
-    (λ same. cut-here m u (x ∷ xs) z (eqb-true m u same) (arrow, way))
-    (λ apart. cut-later m u x xs z apart arrow (cut-at m x xs z (⊎-elim (λ e. absurd (both-ways _ apart (eq-eqb m u e))) (λ later. later) (among-cases m u (x ∷ xs) on)) way))
-    (cases-bool (eqb m u))
+      (λ same. cut-here m u (x ∷ xs) z (eqb-true m u same) (arrow, way))
+      (λ apart. cut-later m u x xs z apart arrow (cut-at m x xs z (⊎-elim (λ e. absurd (both-ways _ apart (eq-eqb m u e))) (λ later. later) (among-cases m u (x ∷ xs) on)) way))
+      (cases-bool (eqb m u))
 
   -- ---- a loop from its lowest vertex on
 
   turned-way : (m u : ℕ) (xs : List ℕ) → Cut-at m u xs u → (rest : List ℕ) × (from-on m (u ∷ xs) ++ up-to m (u ∷ xs) ≡ m ∷ rest) × Way f m rest m × ((x : ℕ) → among x rest ≡ true → (among x (up-to m (u ∷ xs)) ≡ true) ⊎ ((ys : List ℕ) × (from-on m (u ∷ xs) ≡ m ∷ ys) × (among x ys ≡ true)))
   turned-way m u xs (ys, is, way, inl (none, e)) =
       (ys, (λ i. is i ++ none i) ∙ append-nil (m ∷ ys), subst (λ t. Way f m ys t) (sym e) way, λ x on. inr (ys, is, on))
-  turned-way m u xs (ys, is, way, inr (us, some, to-m)) =
-      (ys ++ u ∷ us, (λ i. is i ++ some i), way-join f m ys u us m way to-m,
-      λ x on. ⊎-elim (λ left. inr (ys, is, left)) (λ right. inl (subst (λ l. among x l ≡ true) (sym some) right)) (among-parts x ys (u ∷ us) on))
+  turned-way m u xs (ys, is, way, inr (us, some, to-m)) = (
+    ys ++ u ∷ us,
+    (λ i. is i ++ some i),
+    way-join f m ys u us m way to-m,
+    λ x on. ⊎-elim (λ left. inr (ys, is, left)) (λ right. inl (subst (λ l. among x l ≡ true) (sym some) right)) (among-parts x ys (u ∷ us) on),
+  )
 
 least-low : (v : ℕ) (xs : List ℕ) → (least v xs ≤ v) × All (λ y. least v xs ≤ y) xs
 least-low v [] = (omega arith, tt)
@@ -134,12 +141,12 @@ least-low v (x ∷ xs) =
 least-on : (v : ℕ) (xs : List ℕ) → among (least v xs) (v ∷ xs) ≡ true
 least-on v [] = among-here v []
 least-on v (x ∷ xs) = ⊎-elim
-  (λ is-min. ⊎-elim
+    (λ is-min. ⊎-elim
     (λ le. let e : least (min v x) xs ≡ v = omega arith in subst (λ z. among z (v ∷ x ∷ xs) ≡ true) (sym e) (among-here v (x ∷ xs)))
     (λ gt. let e : least (min v x) xs ≡ x = omega arith in subst (λ z. among z (v ∷ x ∷ xs) ≡ true) (sym e) (among-later x v (x ∷ xs) (among-here x xs)))
     (cases-lt v x))
-  (λ later. among-later (least (min v x) xs) v (x ∷ xs) (among-later (least (min v x) xs) x xs later))
-  (among-cases (least (min v x) xs) (min v x) xs (least-on (min v x) xs))
+    (λ later. among-later (least (min v x) xs) v (x ∷ xs) (among-later (least (min v x) xs) x xs later))
+    (among-cases (least (min v x) xs) (min v x) xs (least-on (min v x) xs))
 
 least-le : (u : ℕ) (xs : List ℕ) (x : ℕ) → among x (u ∷ xs) ≡ true → least u xs ≤ x
 least-le u xs x on = let (low, rest) = least-low u xs in among-all (λ y. least u xs ≤ y) x (u ∷ xs) (low, rest) on
@@ -163,13 +170,16 @@ pub turned-cycle : (f : ℕ → Option ℕ) (u : ℕ) (xs : List ℕ) → Distin
 turned-cycle f u xs distinct way =
     let m = least u xs in
     let (rest, is, around, members) = turned-way f m u xs (cut-at f m u xs u (least-on u xs) way) in
-    subst (Cycle f) (sym is) (around, all-among (λ x. m < x) rest (λ x on.
-      let other : x ≡ m → ⊥ = λ e. ⊎-elim
-        (λ before. among-all (λ y. m ≡ y → ⊥) x (up-to m (u ∷ xs)) (up-to-off m (u ∷ xs)) before (sym e))
-        (λ (ys, from, later). among-all (λ y. m ≡ y → ⊥) x ys (from-fresh m (u ∷ xs) ys distinct from) later (sym e))
-        (members x on) in
-      let low : m ≤ x = least-le u xs x (turned-among (u ∷ xs) x (subst (λ l. among x l ≡ true) (sym is) (among-later x m rest on))) in
-      omega arith))
+    subst (Cycle f) (sym is) (
+      around,
+      all-among (λ x. m < x) rest (λ x on.
+          let other : x ≡ m → ⊥ = λ e. ⊎-elim
+          (λ before. among-all (λ y. m ≡ y → ⊥) x (up-to m (u ∷ xs)) (up-to-off m (u ∷ xs)) before (sym e))
+          (λ (ys, from, later). among-all (λ y. m ≡ y → ⊥) x ys (from-fresh m (u ∷ xs) ys distinct from) later (sym e))
+          (members x on) in
+          let low : m ≤ x = least-le u xs x (turned-among (u ∷ xs) x (subst (λ l. among x l ≡ true) (sym is) (among-later x m rest on))) in
+          omega arith),
+    )
 
 -- ---- the trail
 
@@ -265,9 +275,9 @@ module _ (f : ℕ → Option ℕ) (settled : ℕ → Bool) (n : ℕ) (below : (u
     ends = (
       λ x on. (v, ⊎-elim (chain-leads path v chain x) inl (among-push x v path on), inl none),
       λ x y on arrow. ⊎-elim
-        (λ there. ⊎-elim (λ next. inl (among-left y path (v ∷ []) next)) (λ e. inl (subst (λ z. among z (path ++ v ∷ []) ≡ true) (sym e) (among-right v path (v ∷ []) (among-here v [])))) (chain-next path v chain x y there arrow))
-        (λ e. absurd (none-some (f v) y none (subst (λ z. f z ≡ Some y) e arrow)))
-        (among-push x v path on),
+          (λ there. ⊎-elim (λ next. inl (among-left y path (v ∷ []) next)) (λ e. inl (subst (λ z. among z (path ++ v ∷ []) ≡ true) (sym e) (among-right v path (v ∷ []) (among-here v [])))) (chain-next path v chain x y there arrow))
+          (λ e. absurd (none-some (f v) y none (subst (λ z. f z ≡ Some y) e arrow)))
+          (among-push x v path on),
     );
   }
 
@@ -276,8 +286,8 @@ module _ (f : ℕ → Option ℕ) (settled : ℕ → Bool) (n : ℕ) (below : (u
   told (suc k) path v room chain d opens = by (settled v) refl (among v path) refl (f v) refl (λ w c e o. told k (path ++ v ∷ []) w (let long : length (path ++ v ∷ []) ≡ length path + 1 = length-append path (v ∷ []) in omega arith) c e o)
     where
       by : (s : Bool) → settled v ≡ s → (b : Bool) → among v path ≡ b → (o : Option ℕ) → f v ≡ o
-        → ((w : ℕ) → Chain (path ++ v ∷ []) w → Distinct (path ++ v ∷ []) → ((x : ℕ) → among x (path ++ v ∷ []) ≡ true → settled x ≡ false) → Told f settled (trail-on f settled k (path ++ v ∷ []) w))
-        → Told f settled (cond s (record { path = path; loop = None }) (cond b (record { path = path; loop = Some (from-on v path) }) (if-some o (record { path = path ++ v ∷ []; loop = None }) (λ w. trail-on f settled k (path ++ v ∷ []) w))))
+          → ((w : ℕ) → Chain (path ++ v ∷ []) w → Distinct (path ++ v ∷ []) → ((x : ℕ) → among x (path ++ v ∷ []) ≡ true → settled x ≡ false) → Told f settled (trail-on f settled k (path ++ v ∷ []) w))
+          → Told f settled (cond s (record { path = path; loop = None }) (cond b (record { path = path; loop = Some (from-on v path) }) (if-some o (record { path = path ++ v ∷ []; loop = None }) (λ w. trail-on f settled k (path ++ v ∷ []) w))))
       by true shut b is o arrow rest = stops-settled path v chain d opens shut
       by false open-v true on o arrow rest = record { all-open = opens; distinct = d; ends = round path v chain d on }
       by false open-v false off None none rest = stops-dry path v chain d opens open-v off none

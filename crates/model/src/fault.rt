@@ -22,6 +22,22 @@ pub enum DrawFault {
     Root,
     // A list that the caller gave is too short.
     Short,
+    // The ports are no tree toward the root.
+    NoTree,
+    // The vertex is none of the plan's.
+    Vertex(u16),
+    // The draw's size or root is not the plan's.
+    OtherPlan,
+    // The vertex is settled already.
+    AlreadySettled(u16),
+    // The list of records is full.
+    ListFull,
+    // No vertex is open.
+    NothingOpen,
+    // Vertices are open still.
+    StillOpen,
+    // The draw ended with dry vertices, this one the lowest.
+    Dry(u16),
 }
 
 impl DrawFault {
@@ -34,6 +50,14 @@ impl DrawFault {
             DrawFault::Link => 5,
             DrawFault::Root => 8,
             DrawFault::Short => 9,
+            DrawFault::NoTree => 10,
+            DrawFault::Vertex(_) => 8,
+            DrawFault::OtherPlan => 21,
+            DrawFault::AlreadySettled(_) => 22,
+            DrawFault::ListFull => 23,
+            DrawFault::NothingOpen => 24,
+            DrawFault::StillOpen => 25,
+            DrawFault::Dry(_) => 26,
         }
     }
 
@@ -43,16 +67,13 @@ impl DrawFault {
         Layer::Draw
     }
 
-    // The vertex or the index that the fault speaks of, 0 where it speaks of none.
+    // The vertex that the fault speaks of, 0 where it speaks of none.
     pub fn place(&self) -> usize
         ensures { λ r. ⌜ r ≡ place-of (now (self .entry)) ⌝ }
     {
         match self {
-            DrawFault::NoMemory
-            | DrawFault::Limit
-            | DrawFault::Link
-            | DrawFault::Root
-            | DrawFault::Short => 0,
+            DrawFault::Vertex(v) | DrawFault::AlreadySettled(v) | DrawFault::Dry(v) => *v as usize,
+            _ => 0,
         }
     }
 }
