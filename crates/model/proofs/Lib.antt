@@ -4,6 +4,7 @@ pub mod Lowest
 pub mod Pigeons
 pub mod Popping
 pub mod Reaching
+pub mod Sights
 pub mod Sounds
 pub mod Trails
 pub mod Trees

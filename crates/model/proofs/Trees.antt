@@ -25,23 +25,23 @@ use Rattle.model.proofs.Lowest.{Is-lowest, None-below, lowest-tells}
 use Rattle.model.proofs.Reaching.{leads, comes}
 use Rattle.model.proofs.Ways.{none-some, same-some}
 
+pub target-below : (p : Layout) → Sound p → (v i w : ℕ) → p .target v i ≡ Some w → w < p .size
+target-below p sound v i w is = ⊎-elim
+  (λ lt. let (x, some, below) = sound .target-some v i lt in subst (λ y. y < p .size) (same-some (p .target v i) x w some is) below)
+  (λ ge. absurd (none-some (p .target v i) w (sound .target-none v i ge) is))
+  (cases-lt i (p .degree v))
+
 module _ (p : Layout) (sound : Sound p) (ports : List ℕ) where
   -- the root's entry leads nowhere
   pub root-ends : follow p ports (p .root) ≡ None
   root-ends = cond-true (eqb (p .root) (p .root)) None _ (eq-eqb (p .root) (p .root) refl)
-
-  target-below : (v i w : ℕ) → p .target v i ≡ Some w → w < p .size
-  target-below v i w is = ⊎-elim
-      (λ lt. let (x, some, below) = sound .target-some v i lt in subst (λ y. y < p .size) (same-some (p .target v i) x w some is) below)
-      (λ ge. absurd (none-some (p .target v i) w (sound .target-none v i ge) is))
-      (cases-lt i (p .degree v))
 
   pub follow-below : (v w : ℕ) → follow p ports v ≡ Some w → w < p .size
   follow-below v w is = by (eqb v (p .root)) is
     where
       by : (b : Bool) → cond b None (p .target v (getD ports v 0)) ≡ Some w → w < p .size
       by true some = absurd (none-some None w refl some)
-      by false some = target-below v (getD ports v 0) w some
+      by false some = target-below p sound v (getD ports v 0) w some
 
   abbrev lost : ℕ → Bool
   lost v = not (comes-to (follow p ports) (p .root) (p .size) v)

@@ -1,4 +1,5 @@
 pub mod Arrows
+pub mod Calls
 pub mod Cycles
 pub mod Distinct
 pub mod Draws
