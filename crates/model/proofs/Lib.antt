@@ -1,5 +1,6 @@
 pub mod Cycles
 pub mod Ends
+pub mod Entries
 pub mod Lowest
 pub mod Pigeons
 pub mod Popping
