@@ -1,4 +1,5 @@
 pub mod Cycles
+pub mod Drawing
 pub mod Ends
 pub mod Entries
 pub mod Lowest

@@ -1,0 +1,146 @@
+-- What holds of a draw after any calls: its heights come from popping cycles, and no cycle is left on settled vertices. Assumes nothing.
+use mathlib.Core.Path.{_≡_, refl, sym, ap, subst, _∙_, fun-ext}
+use mathlib.Core.Bool.{Bool, true, false, cond, not, _||_, _&&_}
+use mathlib.Core.List.{List, [], _∷_, _++_, map, append-nil, append-assoc}
+use mathlib.Core.Logic.{_⊎_, inl, inr, ⊎-elim}
+use Prim.Native.Nat.{ℕ, zero, suc, _+_, _<_, _≤_}
+use native.Mathlib.Omega.{arith}
+use native.Mathlib.Numerals.{add-one}
+use lib.Dec.{eqb, ltb}
+use lib.ListN.{length, getD, set, drop, length-append}
+use Rattle.std.specs.Options.{Cases}
+use Rattle.std.specs.Results.{isOk}
+use Rattle.std.specs.shelf.Lists.{All}
+use Rattle.std.proofs.shelf.Lists.{set-at, drop-more, length-map, map-push}
+use Rattle.std.proofs.shelf.Tests.{false≢true, cases-bool, both-ways, or-cases, or-left, or-right, ltb-true, eqb-true, eq-eqb, and-parts, and-from}
+use Rattle.std.specs.declared.option.Option.{Option}
+use Rattle.std.specs.declared.option.Option.the-variants.{Some, None}
+use Rattle.std.specs.declared.result.Result.{Result}
+use Rattle.std.specs.declared.result.Result.the-variants.{Ok, Err}
+use Rattle.model.specs.Arrows.{Cells, sight}
+use Rattle.model.specs.Calls.{Strategy, After, first-fault, refused, pops-cycle, settles, by-trail, tries, telling, steps, none-open, stopped, preceded, all-told, runs-on, runs, Call, try-at, step, run, does, worked, popped-by, start}
+use Rattle.model.specs.Cycles.{Arrows, Heights, flat, seen, among, Cycle, Coloured, coloured, raise, Pops, Final}
+use Rattle.model.specs.Distinct.{Distinct}
+use Rattle.model.specs.Draws.{no-entry, height-of, is-settled, changed, higher, shut, State, Held, opened, is-of, shown, Trail, trail, turned, record-of}
+use Rattle.model.specs.Ends.{if-some}
+use Rattle.model.specs.Layouts.{Layout, Sound, is-root}
+use Rattle.model.specs.Orders.{open-marks}
+use Rattle.model.specs.Ways.{Way, Leads}
+use Rattle.model.specs.declared.draw.Entry.{Entry}
+use Rattle.model.specs.declared.draw.Pop.{Pop}
+use Rattle.model.specs.declared.draw.Tried.{Tried}
+use Rattle.model.specs.declared.draw.Stop.{Stop}
+use Rattle.model.specs.declared.draw.Stop.the-variants.{Ended, Spent, Full}
+use Rattle.model.specs.declared.fault.DrawFault.{DrawFault}
+use Rattle.model.specs.declared.fault.DrawFault.the-variants as fault
+use Rattle.model.proofs.Cycles.{among-here, among-cases, among-all, all-among, way-rest, cycle-next, cycle-stays, cycle-same, raise-off}
+use Rattle.model.proofs.Ends.{Stays, Within, cycle-below, stays}
+use Rattle.model.proofs.Entries.{length-changed, raised-heights, settled-marks, raised-marks, settled-heights, opened-long, opened-heights, opened-marks, opened-past}
+use Rattle.model.proofs.Popping.{pops-join}
+use Rattle.model.proofs.Sights.{sight-within, visible-some, then-some}
+use Rattle.model.proofs.Trails.{Told, Round, Leaves, Closed-under, turned-among, turned-cycle, told}
+use Rattle.model.proofs.Ways.{none-some}
+
+-- every vertex of a cycle has an arrow, and from each the arrows lead to each
+cycle-arrow : (f : ℕ → Option ℕ) (c : List ℕ) (x : ℕ) → Cycle f c → among x c ≡ true → (y : ℕ) × (f x ≡ Some y)
+cycle-arrow f [] x cyc on = absurd cyc
+cycle-arrow f (v ∷ vs) x (way, low) on = first (way-rest f v vs v x way on)
+  where
+    first : (ys : List ℕ) × Way f x ys v → (y : ℕ) × (f x ≡ Some y)
+    first ([], arrow) = (v, arrow)
+    first (y ∷ ys, (arrow, rest)) = (y, arrow)
+
+cycle-leads : (f : ℕ → Option ℕ) (c : List ℕ) (x y : ℕ) → Cycle f c → among x c ≡ true → Leads f x y → among y c ≡ true
+cycle-leads f c x y cyc on (inl e) = subst (λ z. among z c ≡ true) e on
+cycle-leads f c x y cyc on (inr (ys, way)) = cycle-stays f c x ys y cyc on way
+
+-- a property that arrows carry on holds all along a cycle that has it once
+carried : (f : ℕ → Option ℕ) (P : ℕ → Type 0) → ((x y : ℕ) → P x → f x ≡ Some y → P y) → (c : List ℕ) (x : ℕ) → Cycle f c → among x c ≡ true → P x → (y : ℕ) → among y c ≡ true → P y
+carried f P on-arrow [] x cyc on px = absurd cyc
+carried f P on-arrow (v ∷ vs) x (way, low) on px =
+    let (xs, to-v) = way-rest f v vs v x way on in
+    let pv : P v = along xs x v to-v px in
+    λ y there. all-along v vs v way pv y there
+  where
+    along : (xs : List ℕ) (u w : ℕ) → Way f u xs w → P u → P w
+    along [] u w arrow pu = on-arrow u w pu arrow
+    along (z ∷ zs) u w (arrow, rest) pu = along zs z w rest (on-arrow u z pu arrow)
+    all-along : (u : ℕ) (us : List ℕ) (w : ℕ) → Way f u us w → P u → (y : ℕ) → among y (u ∷ us) ≡ true → P y
+    all-along u [] w arrow pu y there = ⊎-elim (λ e. subst P (sym e) pu) (λ never. absurd (false≢true never)) (among-cases y u [] there)
+    all-along u (z ∷ zs) w (arrow, rest) pu y there = ⊎-elim (λ e. subst P (sym e) pu) (all-along z zs w rest (on-arrow u z pu arrow) y) (among-cases y u (z ∷ zs) there)
+
+module _ (p : Layout) (a : Cells) (sound : Sound p) where
+  -- the marks of a draw: an arrow from a settled vertex leads to a settled one, and no cycle holds a settled vertex
+  pub record Sane (es : List Entry) : Type 0 where
+    pub sized : length es ≡ p .size
+    pub closed : (x y : ℕ) → is-settled es x ≡ true → shown p a es x ≡ Some y → is-settled es y ≡ true
+    pub no-cycle : (c : List ℕ) (x : ℕ) → Cycle (shown p a es) c → among x c ≡ true → is-settled es x ≡ true → ⊥
+
+  shown-stays : (es : List Entry) → Stays (shown p a es) (p .size)
+  shown-stays es = stays (sight p a) (p .size) 4096 (sight-within p a sound) (height-of es)
+
+  inside : (es : List Entry) → length es ≡ p .size → (c : List ℕ) → Cycle (shown p a es) c → All (λ v. v < length es) c
+  inside es sized c cyc = subst (λ n. All (λ v. v < n) c) (sym sized) (cycle-below (shown p a es) (p .size) (shown-stays es) c cyc)
+
+  -- ---- popping a cycle of open vertices
+  module _ (es : List Entry) (sane : Sane es) (c : List ℕ) (cyc : Cycle (shown p a es) c) (opens : (x : ℕ) → among x c ≡ true → is-settled es x ≡ false) where
+    heights-raised : height-of (changed higher c es) ≡ raise c (height-of es)
+    heights-raised = fun-ext (raised-heights c es (inside es (sane .sized) c cyc))
+
+    -- a settled vertex is not on the cycle, and shows what it showed
+    same-shown : (x : ℕ) → is-settled es x ≡ true → shown p a (changed higher c es) x ≡ shown p a es x
+    same-shown x shut-x =
+        let off : among x c ≡ false = ⊎-elim (λ on. absurd (both-ways _ (opens x on) shut-x)) (λ no-on. no-on) (cases-bool (among x c)) in
+        ap (sight p a x) (ap (λ h. h x) heights-raised ∙ raise-off c (height-of es) x off)
+
+    pub pop-sane : Sane (changed higher c es)
+    pop-sane = record {
+      sized = length-changed higher c es ∙ sane .sized;
+      closed = λ x y shut-x arrow.
+        let old : is-settled es x ≡ true = sym (raised-marks c es x) ∙ shut-x in
+        raised-marks c es y ∙ sane .closed x y old (sym (same-shown x old) ∙ arrow);
+      no-cycle = λ d x cyc-d on shut-x.
+        let old : is-settled es x ≡ true = sym (raised-marks c es x) ∙ shut-x in
+        let all-shut = carried (shown p a (changed higher c es)) (λ z. is-settled es z ≡ true) (λ u w shut-u arrow. sane .closed u w shut-u (sym (same-shown u shut-u) ∙ arrow)) d x cyc-d on old in
+        sane .no-cycle d x (cycle-same (shown p a (changed higher c es)) (shown p a es) d (λ y there. sym (same-shown y (all-shut y there))) cyc-d) on old;
+    }
+
+  -- ---- settling a trail that leaves
+  module _ (es : List Entry) (sane : Sane es) (path : List ℕ) (within : All (λ v. v < length es) path)
+    (leaves : (x : ℕ) → among x path ≡ true → Leaves (shown p a es) (is-settled es) x) (under : Closed-under (shown p a es) (is-settled es) path) where
+    same-sight : shown p a (changed shut path es) ≡ shown p a es
+    same-sight = ap (seen (sight p a)) (fun-ext (settled-heights path es))
+
+    now-settled : (x : ℕ) → is-settled (changed shut path es) x ≡ true → (among x path ≡ true) ⊎ (is-settled es x ≡ true)
+    now-settled x is = or-cases (among x path) (is-settled es x) (sym (settled-marks path es within x) ∙ is)
+
+    on-now : (x : ℕ) → among x path ≡ true → is-settled (changed shut path es) x ≡ true
+    on-now x on = settled-marks path es within x ∙ or-left (among x path) (is-settled es x) on
+
+    before-now : (x : ℕ) → is-settled es x ≡ true → is-settled (changed shut path es) x ≡ true
+    before-now x old = settled-marks path es within x ∙ or-right (among x path) (is-settled es x) old
+
+    pub settle-sane : Sane (changed shut path es)
+    settle-sane = record {
+      sized = length-changed shut path es ∙ sane .sized;
+      closed = λ x y is arrow.
+        let old-arrow : shown p a es x ≡ Some y = sym (ap (λ f. f x) same-sight) ∙ arrow in
+        ⊎-elim
+        (λ on. ⊎-elim (on-now y) (before-now y) (under x y on old-arrow))
+        (λ old. before-now y (sane .closed x y old old-arrow))
+        (now-settled x is);
+      no-cycle = λ c x cyc on is.
+        let old-cyc : Cycle (shown p a es) c = subst (λ f. Cycle f c) same-sight cyc in
+        ⊎-elim
+        (λ there. out c x old-cyc on (leaves x there))
+        (λ old. sane .no-cycle c x old-cyc on old)
+        (now-settled x is);
+    }
+      where
+        out : (c : List ℕ) (x : ℕ) → Cycle (shown p a es) c → among x c ≡ true → Leaves (shown p a es) (is-settled es) x → ⊥
+        out c x cyc on (y, leads, stop) =
+            let on-y = cycle-leads (shown p a es) c x y cyc on leads in
+            ⊎-elim
+            (λ none. let (z, arrow) = cycle-arrow (shown p a es) c y cyc on-y in none-some (shown p a es y) z none arrow)
+            (λ old. sane .no-cycle c y cyc on-y old)
+            stop
