@@ -7,7 +7,7 @@ use Prim.Native.Nat.{ℕ, zero, suc, _+_, _<_, _≤_}
 use native.Mathlib.Omega.{arith}
 use native.Mathlib.Numerals.{add-one}
 use lib.Dec.{eqb, ltb}
-use lib.ListN.{length, getD, set, drop, length-append}
+use lib.ListN.{length, getD, set, drop, length-append, length-drop}
 use Rattle.std.specs.Options.{Cases}
 use Rattle.std.specs.Results.{isOk}
 use Rattle.std.specs.shelf.Lists.{All}
@@ -144,3 +144,76 @@ module _ (p : Layout) (a : Cells) (sound : Sound p) where
             (λ none. let (z, arrow) = cycle-arrow (shown p a es) c y cyc on-y in none-some (shown p a es y) z none arrow)
             (λ old. sane .no-cycle c y cyc on-y old)
             stop
+
+  -- ---- what holds of a draw and its list
+
+  -- the draw is of the plan, its marks are sane, its heights come from popping cs, pops is their number, and the list holds their records in turn and beyond them what it held
+  pub record Good (l : List Pop) (h : Held) (cs : List Coloured) : Type 0 where
+    pub rooted : h .draw .root ≡ p .root
+    pub sane : Sane (h .draw .entries)
+    pub popped : Pops (sight p a) flat cs (height-of (h .draw .entries))
+    pub counted : h .draw .pops ≡ length cs
+    pub listed : h .list ≡ map record-of cs ++ drop (length cs) l
+
+  -- the same after a call
+  abbrev Keeps : {A : Type 0} → List Pop → List Coloured → After A → Type 0
+  Keeps l cs x = Good l (x .held) (cs ++ x .popped)
+
+  same-good : (l : List Pop) (h : Held) (cs : List Coloured) → Good l h cs → Good l h (cs ++ [])
+  same-good l h cs good = subst (Good l h) (sym (append-nil cs)) good
+
+  -- one record more
+  list-more : (cs : List Coloured) (k : Coloured) (l list : List Pop) (n : ℕ) → n ≡ length cs → list ≡ map record-of cs ++ drop (length cs) l → n < length list
+    → set list n (record-of k) ≡ map record-of (cs ++ k ∷ []) ++ drop (length (cs ++ k ∷ [])) l
+  list-more cs k l list n is-n is few =
+      let front : length (map record-of cs) ≡ n = length-map cs record-of ∙ sym is-n in
+      let long : length list ≡ length (map record-of cs) + length (drop (length cs) l) = ap length is ∙ length-append (map record-of cs) (drop (length cs) l) in
+      let more : length cs < length l = omega (arith, length-drop (length cs) l) in
+      let opened-up : drop (length cs) l ≡ getD l (length cs) (record-of []) ∷ drop (length cs + 1) l = drop-more l (length cs) (record-of []) more in
+      let pushed : length (cs ++ k ∷ []) ≡ length cs + 1 = length-append cs (k ∷ []) in
+      ap (λ x. set x n (record-of k)) (is ∙ ap (λ x. map record-of cs ++ x) opened-up)
+      ∙ set-at (map record-of cs) (getD l (length cs) (record-of [])) (drop (length cs + 1) l) (record-of k) n front
+      ∙ sym (append-assoc (map record-of cs) (record-of k ∷ []) (drop (length cs + 1) l))
+      ∙ ap (λ x. x ++ drop (length cs + 1) l) (sym (map-push record-of cs k))
+      ∙ ap (λ m. map record-of (cs ++ k ∷ []) ++ drop m l) (sym pushed)
+
+  pop-good : (l : List Pop) (h : Held) (cs : List Coloured) → Good l h cs → (c : List ℕ) → Cycle (shown p a (h .draw .entries)) c → ((x : ℕ) → among x c ≡ true → is-settled (h .draw .entries) x ≡ false)
+    → h .draw .pops < length (h .list) → Keeps l cs (pops-cycle h c)
+  pop-good l h cs good c cyc opens room =
+      let es = h .draw .entries in
+      let k = coloured (height-of es) c in
+      record {
+        rooted = good .rooted;
+        sane = pop-sane es (good .sane) c cyc opens;
+        popped = pops-join (sight p a) cs (k ∷ []) flat (height-of es) (height-of (changed higher c es)) (good .popped) (c, cyc, refl, λ v. sym (raised-heights c es (inside es (good .sane .sized) c cyc) v));
+        counted = ap suc (good .counted) ∙ (let pushed : length (cs ++ k ∷ []) ≡ length cs + 1 = length-append cs (k ∷ []) in omega arith);
+        listed = list-more cs k l (h .list) (h .draw .pops) (good .counted) (good .listed) room;
+      }
+
+  settle-good : (l : List Pop) (h : Held) (cs : List Coloured) → Good l h cs → (path : List ℕ) → All (λ v. v < p .size) path
+    → ((x : ℕ) → among x path ≡ true → Leaves (shown p a (h .draw .entries)) (is-settled (h .draw .entries)) x) → Closed-under (shown p a (h .draw .entries)) (is-settled (h .draw .entries)) path → Keeps l cs (settles h path)
+  settle-good l h cs good path low leaves under =
+      let es = h .draw .entries in
+      same-good l (settles h path .held) cs (record {
+        rooted = good .rooted;
+        sane = settle-sane es (good .sane) path (subst (λ n. All (λ v. v < n) path) (sym (good .sane .sized)) low) leaves under;
+        popped = subst (Pops (sight p a) flat cs) (sym (fun-ext (settled-heights path es))) (good .popped);
+        counted = good .counted;
+        listed = good .listed;
+      })
+
+  trail-good : (l : List Pop) (h : Held) (cs : List Coloured) → Good l h cs → (t : Trail) → Told (shown p a (h .draw .entries)) (is-settled (h .draw .entries)) (p .size) t → Keeps l cs (by-trail h t)
+  trail-good l h cs good t tells = by (t .loop) (tells .ends)
+    where
+      f : ℕ → Option ℕ
+      f = shown p a (h .draw .entries)
+      by : (o : Option (List ℕ)) → Cases o (((x : ℕ) → among x (t .path) ≡ true → Leaves f (is-settled (h .draw .entries)) x) × Closed-under f (is-settled (h .draw .entries)) (t .path)) (λ l2. Round f (t .path) l2)
+        → Keeps l cs (if-some o (settles h (t .path)) (λ l2. cond (ltb (h .draw .pops) (length (h .list))) (pops-cycle h (turned l2)) (refused h fault.ListFull)))
+      by None (leaves, under) = settle-good l h cs good (t .path) (tells .inside) leaves under
+      by (Some l2) round = room (ltb (h .draw .pops) (length (h .list))) refl
+        where
+          cyc : Cycle f (turned l2)
+          cyc = subst (λ x. Cycle f (turned x)) (sym (round .is)) (turned-cycle f (round .first) (round .rest) (subst Distinct (round .is) (round .distinct)) (round .way))
+          room : (b : Bool) → ltb (h .draw .pops) (length (h .list)) ≡ b → Keeps l cs (cond b (pops-cycle h (turned l2)) (refused h fault.ListFull))
+          room true is = pop-good l h cs good (turned l2) cyc (λ x on. tells .all-open x (round .on-path x (turned-among l2 x on))) (ltb-true _ _ is)
+          room false is = same-good l h cs good

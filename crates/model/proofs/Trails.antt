@@ -200,13 +200,14 @@ pub record Round (f : ℕ → Option ℕ) (path l : List ℕ) : Type 0 where
   pub on-path : (x : ℕ) → among x l ≡ true → among x path ≡ true
   pub distinct : Distinct l
 
--- what a trail tells: its vertices are open and different; it came round, or it leaves
-pub record Told (f : ℕ → Option ℕ) (settled : ℕ → Bool) (t : Trail) : Type 0 where
+-- what a trail tells: its vertices are below n, open and different; it came round, or it leaves
+pub record Told (f : ℕ → Option ℕ) (settled : ℕ → Bool) (n : ℕ) (t : Trail) : Type 0 where
+  pub inside : All (λ x. x < n) (t .path)
   pub all-open : (x : ℕ) → among x (t .path) ≡ true → settled x ≡ false
   pub distinct : Distinct (t .path)
   pub ends : Cases (t .loop) (((x : ℕ) → among x (t .path) ≡ true → Leaves f settled x) × Closed-under f settled (t .path)) (λ l. Round f (t .path) l)
 
-module _ (f : ℕ → Option ℕ) (settled : ℕ → Bool) (n : ℕ) (below : (u w : ℕ) → f u ≡ Some w → u < n) where
+module _ (f : ℕ → Option ℕ) (settled : ℕ → Bool) (n : ℕ) (below : (u w : ℕ) → f u ≡ Some w → u < n) (to : (u w : ℕ) → f u ≡ Some w → w < n) where
   -- the path leads to v
   abbrev Chain : List ℕ → ℕ → Type 0
   Chain [] v = Unit {0}
@@ -254,8 +255,9 @@ module _ (f : ℕ → Option ℕ) (settled : ℕ → Bool) (n : ℕ) (below : (u
       }
 
   -- where the trail stops at a settled vertex
-  stops-settled : (path : List ℕ) (v : ℕ) → Chain path v → Distinct path → ((x : ℕ) → among x path ≡ true → settled x ≡ false) → settled v ≡ true → Told f settled (record { path = path; loop = None })
+  stops-settled : (path : List ℕ) (v : ℕ) → Chain path v → Distinct path → ((x : ℕ) → among x path ≡ true → settled x ≡ false) → settled v ≡ true → Told f settled n (record { path = path; loop = None })
   stops-settled path v chain d opens shut = record {
+    inside = chain-below path v chain;
     all-open = opens;
     distinct = d;
     ends = (
@@ -268,8 +270,9 @@ module _ (f : ℕ → Option ℕ) (settled : ℕ → Bool) (n : ℕ) (below : (u
   open-push path v opens open-v x on = ⊎-elim (opens x) (λ e. subst (λ z. settled z ≡ false) (sym e) open-v) (among-push x v path on)
 
   -- where it stops behind a vertex without an arrow
-  stops-dry : (path : List ℕ) (v : ℕ) → Chain path v → Distinct path → ((x : ℕ) → among x path ≡ true → settled x ≡ false) → settled v ≡ false → among v path ≡ false → f v ≡ None → Told f settled (record { path = path ++ v ∷ []; loop = None })
-  stops-dry path v chain d opens open-v off none = record {
+  stops-dry : (path : List ℕ) (v : ℕ) → Chain path v → Distinct path → ((x : ℕ) → among x path ≡ true → settled x ≡ false) → settled v ≡ false → among v path ≡ false → v < n → f v ≡ None → Told f settled n (record { path = path ++ v ∷ []; loop = None })
+  stops-dry path v chain d opens open-v off low none = record {
+    inside = all-push (λ x. x < n) path v (chain-below path v chain) low;
     all-open = open-push path v opens open-v;
     distinct = distinct-push path v d (off-fresh v path off);
     ends = (
@@ -281,14 +284,14 @@ module _ (f : ℕ → Option ℕ) (settled : ℕ → Bool) (n : ℕ) (below : (u
     );
   }
 
-  pub told : (k : ℕ) (path : List ℕ) (v : ℕ) → n < length path + k → Chain path v → Distinct path → ((x : ℕ) → among x path ≡ true → settled x ≡ false) → Told f settled (trail-on f settled k path v)
-  told zero path v room chain d opens = let few : length path ≤ n = pigeons n path (chain-below path v chain) d in absurd (omega arith)
-  told (suc k) path v room chain d opens = by (settled v) refl (among v path) refl (f v) refl (λ w c e o. told k (path ++ v ∷ []) w (let long : length (path ++ v ∷ []) ≡ length path + 1 = length-append path (v ∷ []) in omega arith) c e o)
+  pub told : (k : ℕ) (path : List ℕ) (v : ℕ) → n < length path + k → v < n → Chain path v → Distinct path → ((x : ℕ) → among x path ≡ true → settled x ≡ false) → Told f settled n (trail-on f settled k path v)
+  told zero path v room low chain d opens = let few : length path ≤ n = pigeons n path (chain-below path v chain) d in absurd (omega arith)
+  told (suc k) path v room low chain d opens = by (settled v) refl (among v path) refl (f v) refl (λ w in-plan c e o. told k (path ++ v ∷ []) w (let long : length (path ++ v ∷ []) ≡ length path + 1 = length-append path (v ∷ []) in omega arith) in-plan c e o)
     where
       by : (s : Bool) → settled v ≡ s → (b : Bool) → among v path ≡ b → (o : Option ℕ) → f v ≡ o
-          → ((w : ℕ) → Chain (path ++ v ∷ []) w → Distinct (path ++ v ∷ []) → ((x : ℕ) → among x (path ++ v ∷ []) ≡ true → settled x ≡ false) → Told f settled (trail-on f settled k (path ++ v ∷ []) w))
-          → Told f settled (cond s (record { path = path; loop = None }) (cond b (record { path = path; loop = Some (from-on v path) }) (if-some o (record { path = path ++ v ∷ []; loop = None }) (λ w. trail-on f settled k (path ++ v ∷ []) w))))
+        → ((w : ℕ) → w < n → Chain (path ++ v ∷ []) w → Distinct (path ++ v ∷ []) → ((x : ℕ) → among x (path ++ v ∷ []) ≡ true → settled x ≡ false) → Told f settled n (trail-on f settled k (path ++ v ∷ []) w))
+        → Told f settled n (cond s (record { path = path; loop = None }) (cond b (record { path = path; loop = Some (from-on v path) }) (if-some o (record { path = path ++ v ∷ []; loop = None }) (λ w. trail-on f settled k (path ++ v ∷ []) w))))
       by true shut b is o arrow rest = stops-settled path v chain d opens shut
-      by false open-v true on o arrow rest = record { all-open = opens; distinct = d; ends = round path v chain d on }
-      by false open-v false off None none rest = stops-dry path v chain d opens open-v off none
-      by false open-v false off (Some w) arrow rest = rest w (chain-more path v w chain arrow) (distinct-push path v d (off-fresh v path off)) (open-push path v opens open-v)
+      by false open-v true on o arrow rest = record { inside = chain-below path v chain; all-open = opens; distinct = d; ends = round path v chain d on }
+      by false open-v false off None none rest = stops-dry path v chain d opens open-v off low none
+      by false open-v false off (Some w) arrow rest = rest w (to v w arrow) (chain-more path v w chain arrow) (distinct-push path v d (off-fresh v path off)) (open-push path v opens open-v)
