@@ -12,12 +12,12 @@ use Rattle.std.specs.Options.{Cases}
 use Rattle.std.specs.Results.{isOk}
 use Rattle.std.specs.shelf.Lists.{All}
 use Rattle.std.proofs.shelf.Lists.{set-at, drop-more, length-map, map-push}
-use Rattle.std.proofs.shelf.Tests.{false≢true, cases-bool, both-ways, or-cases, or-left, or-right, ltb-true, eqb-true, eq-eqb, and-parts, and-from}
+use Rattle.std.proofs.shelf.Tests.{false≢true, cases-bool, both-ways, or-cases, or-left, or-right, ltb-true, not-false, cases-lt}
 use Rattle.std.specs.declared.option.Option.{Option}
 use Rattle.std.specs.declared.option.Option.the-variants.{Some, None}
 use Rattle.std.specs.declared.result.Result.{Result}
 use Rattle.std.specs.declared.result.Result.the-variants.{Ok, Err}
-use Rattle.model.specs.Arrows.{Cells, sight}
+use Rattle.model.specs.Arrows.{Cells, counts, sight}
 use Rattle.model.specs.Calls.{Strategy, After, first-fault, refused, pops-cycle, settles, by-trail, tries, telling, steps, none-open, stopped, preceded, all-told, runs-on, runs, Call, try-at, step, run, does, worked, popped-by, start}
 use Rattle.model.specs.Cycles.{Arrows, Heights, flat, seen, among, Cycle, Coloured, coloured, raise, Pops, Final}
 use Rattle.model.specs.Distinct.{Distinct}
@@ -25,6 +25,7 @@ use Rattle.model.specs.Draws.{no-entry, height-of, is-settled, changed, higher
 use Rattle.model.specs.Ends.{if-some}
 use Rattle.model.specs.Layouts.{Layout, Sound, is-root}
 use Rattle.model.specs.Orders.{open-marks}
+use Rattle.model.specs.Picks.{then}
 use Rattle.model.specs.Ways.{Way, Leads}
 use Rattle.model.specs.declared.draw.Entry.{Entry}
 use Rattle.model.specs.declared.draw.Pop.{Pop}
@@ -217,3 +218,101 @@ module _ (p : Layout) (a : Cells) (sound : Sound p) where
           room : (b : Bool) → ltb (h .draw .pops) (length (h .list)) ≡ b → Keeps l cs (cond b (pops-cycle h (turned l2)) (refused h fault.ListFull))
           room true is = pop-good l h cs good (turned l2) cyc (λ x on. tells .all-open x (round .on-path x (turned-among l2 x on))) (ltb-true _ _ is)
           room false is = same-good l h cs good
+
+  shown-to : (es : List Entry) (v : ℕ) → v < p .size → Told (shown p a es) (is-settled es) (p .size) (trail p a es v)
+  shown-to es v low = told (shown p a es) (is-settled es) (p .size) (shown-stays es .from) (shown-stays es .to) (suc (p .size)) [] v (omega arith) low tt tt (λ x on. absurd (false≢true on))
+
+  -- the faults of a try that come before the trail: without one, v is a vertex of the plan
+  pub tries-good : (l : List Pop) (h : Held) (cs : List Coloured) → Good l h cs → (v : ℕ) → Keeps l cs (tries p a v h)
+  tries-good l h cs good v = other (not (is-of p (h .draw))) (not (ltb v (p .size))) refl (is-settled (h .draw .entries) v)
+    where
+      other : (b t : Bool) → not (ltb v (p .size)) ≡ t → (s : Bool) → Keeps l cs (if-some (first-fault ((b, fault.OtherPlan) ∷ (t, fault.Vertex v) ∷ (s, fault.AlreadySettled v) ∷ [])) (by-trail h (trail p a (h .draw .entries) v)) (λ e. refused h e))
+      other true t is s = same-good l h cs good
+      other false true is s = same-good l h cs good
+      other false false is true = same-good l h cs good
+      other false false is false = trail-good l h cs good (trail p a (h .draw .entries) v) (shown-to (h .draw .entries) v (ltb-true v (p .size) (not-false _ is)))
+
+  pub steps-good : (l : List Pop) (h : Held) (cs : List Coloured) → Good l h cs → (s : Strategy) → Keeps l cs (steps p a s h)
+  steps-good l h cs good s = by (is-of p (h .draw)) (s [] (open-marks (h .draw .entries)))
+    where
+      by : (b : Bool) (o : Option ℕ) → Keeps l cs (cond b (if-some o (refused h fault.NothingOpen) (λ v. telling v (tries p a v h))) (refused h fault.OtherPlan))
+      by true None = same-good l h cs good
+      by true (Some v) = tries-good l h cs good v
+      by false o = same-good l h cs good
+
+  runs-on-good : (l : List Pop) (left made : ℕ) (h : Held) (cs : List Coloured) → Good l h cs → (s : Strategy) → Keeps l cs (runs-on p a s left made h)
+  runs-on-good l zero made h cs good s = by (none-open (h .draw .entries))
+    where
+      by : (b : Bool) → Keeps l cs (cond b (stopped h made Ended) (stopped h made Spent))
+      by true = same-good l h cs good
+      by false = same-good l h cs good
+  runs-on-good l (suc left) made h cs good s = by (none-open (h .draw .entries)) (isOk (x .answer)) (runs-on-good l left (suc made) (x .held) (cs ++ x .popped) (steps-good l h cs good s) (all-told s (x .told)))
+    where
+      x : After (Result Tried DrawFault)
+      x = steps p a s h
+      rest : After (Result (ℕ × Stop) DrawFault)
+      rest = runs-on p a (all-told s (x .told)) left (suc made) (x .held)
+      by : (b o : Bool) → Keeps l (cs ++ x .popped) rest → Keeps l cs (cond b (stopped h made Ended) (cond o (preceded (x .popped) (x .told) rest) (stopped h made Full)))
+      by true o later = same-good l h cs good
+      by false true later = subst (Good l (rest .held)) (append-assoc cs (x .popped) (rest .popped)) later
+      by false false later = same-good l h cs good
+
+  runs-good : (l : List Pop) (h : Held) (cs : List Coloured) → Good l h cs → (s : Strategy) (budget : ℕ) → Keeps l cs (runs p a s budget h)
+  runs-good l h cs good s budget = by (is-of p (h .draw))
+    where
+      by : (b : Bool) → Keeps l cs (cond b (runs-on p a s budget 0 h) (refused h fault.OtherPlan))
+      by true = runs-on-good l budget 0 h cs good s
+      by false = same-good l h cs good
+
+  pub does-good : (l : List Pop) (c : Call) (h : Held) (cs : List Coloured) → Good l h cs → Keeps l cs (does p a c h)
+  does-good l (try-at v) h cs good = tries-good l h cs good v
+  does-good l (step s) h cs good = steps-good l h cs good s
+  does-good l (run s budget) h cs good = runs-good l h cs good s budget
+
+  pub worked-good : (l : List Pop) (calls : List Call) (h : Held) (cs : List Coloured) → Good l h cs → Good l (worked p a calls h) (cs ++ popped-by p a calls h)
+  worked-good l [] h cs good = same-good l h cs good
+  worked-good l (c ∷ calls) h cs good =
+      let x = does p a c h in
+      subst (Good l (worked p a calls (x .held))) (append-assoc cs (x .popped) (popped-by p a calls (x .held))) (worked-good l calls (x .held) (cs ++ x .popped) (does-good l c h cs good))
+
+  -- ---- a fresh draw
+
+  root-dark : (es : List Entry) (x : ℕ) → is-root p x ≡ true → shown p a es x ≡ None
+  root-dark es x root = ap (λ b. then (cond b None (then (a x (height-of es x) (p .degree x)) (counts (p .degree x) (height-of es x)))) (p .target x)) root
+
+  fresh-root : (x : ℕ) → is-settled (opened p .entries) x ≡ true → is-root p x ≡ true
+  fresh-root x shut-x = ⊎-elim (λ within. sym (opened-marks p x within) ∙ shut-x) (λ past. absurd (both-ways _ (opened-past p x past) shut-x)) (cases-lt x (p .size))
+
+  pub start-good : (l : List Pop) → Good l (start p l) []
+  start-good l = record {
+    rooted = refl;
+    sane = record {
+      sized = opened-long p;
+      closed = λ x y shut-x arrow. absurd (none-some _ y (root-dark (opened p .entries) x (fresh-root x shut-x)) arrow);
+      no-cycle = λ c x cyc on shut-x. let (y, arrow) = cycle-arrow (shown p a (opened p .entries)) c x cyc on in none-some _ y (root-dark (opened p .entries) x (fresh-root x shut-x)) arrow;
+    };
+    popped = λ v. sym (opened-heights p v);
+    counted = refl;
+    listed = refl;
+  }
+
+  -- any calls on a fresh draw
+  pub calls-good : (l : List Pop) (calls : List Call) → Good l (worked p a calls (start p l)) (popped-by p a calls (start p l))
+  calls-good l calls = worked-good l calls (start p l) [] (start-good l)
+
+  -- ---- nothing is open: no cycle is left
+
+  all-settled : (es : List Entry) → none-open es ≡ true → (v : ℕ) → v < length es → is-settled es v ≡ true
+  all-settled [] none v within = absurd (omega arith)
+  all-settled (e ∷ es) none v within = by (e .settled) refl none v within (all-settled es)
+    where
+      by : (b : Bool) → e .settled ≡ b → cond b (none-open es) false ≡ true → (w : ℕ) → w < suc (length es) → (none-open es ≡ true → (u : ℕ) → u < length es → is-settled es u ≡ true) → is-settled (e ∷ es) w ≡ true
+      by true is rest zero low on = is
+      by true is rest (suc w) low on = on rest w (omega arith)
+      by false is never w low on = absurd (false≢true never)
+
+  pub ended-final : (l : List Pop) (h : Held) (cs : List Coloured) → Good l h cs → none-open (h .draw .entries) ≡ true → Final (sight p a) (height-of (h .draw .entries))
+  ended-final l h cs good none [] cyc = cyc
+  ended-final l h cs good none (v ∷ vs) cyc =
+      let es = h .draw .entries in
+      good .sane .no-cycle (v ∷ vs) v cyc (among-here v vs) (all-settled es none v (inside es (good .sane .sized) (v ∷ vs) cyc .0))
