@@ -131,6 +131,13 @@ raise-off d h v off = ap (λ b. cond b (suc (h v)) (h v)) off
 pub raise-on : (d : List ℕ) (h : Heights) (v : ℕ) → among v d ≡ true → raise d h v ≡ suc (h v)
 raise-on d h v on = ap (λ b. cond b (suc (h v)) (h v)) on
 
+pub raise-up : (c : List ℕ) (h : Heights) (v : ℕ) → h v ≤ raise c h v
+raise-up c h v = by (among v c)
+  where
+    by : (b : Bool) → h v ≤ cond b (suc (h v)) (h v)
+    by true = omega arith
+    by false = omega arith
+
 -- popping d leaves a cycle that is apart from it, with its heights
 pub cycle-kept : (arrows : Arrows) (h : Heights) (c d : List ℕ) → Apart c d → Cycle (seen arrows h) c → Cycle (seen arrows (raise d h)) c
 cycle-kept arrows h c d apart cyc = cycle-same (seen arrows h) (seen arrows (raise d h)) c (λ y on. ap (arrows y) (raise-off d h y (apart y on))) cyc

@@ -16,7 +16,7 @@ use Rattle.model.specs.Ways.{Way}
 use Rattle.model.specs.Cycles.{Arrows, Heights, seen, among, Cycle, Coloured, coloured, raise, Pops, Final}
 use Rattle.model.specs.Ends.{closes, lowest-cycle, End, noting, if-some, popped-out, Holds-lowest, Lowest-pops}
 use Rattle.model.specs.Picks.{then, first}
-use Rattle.model.proofs.Cycles.{among-here, among-all, all-among, cycle-low, cycle-distinct, cycles-meet, raise-on, raise-off}
+use Rattle.model.proofs.Cycles.{among-here, among-all, all-among, cycle-low, cycle-distinct, cycles-meet, raise-on, raise-up}
 use Rattle.model.proofs.Lowest.{No-answer, Is-first, first-tells}
 use Rattle.model.proofs.Pigeons.{pigeons}
 use Rattle.model.proofs.Ways.{none-some, same-some, way-all}
@@ -128,13 +128,6 @@ module _ (top : ℕ) (h g : Heights) (up : (v : ℕ) → h v ≤ g v) where
       (λ lt. omega (arith, up n, room-less n v lt raised under))
       (λ ge. let e : v ≡ n = omega arith in omega (arith, subst (λ x. h x < g x) e raised, subst (λ x. h x < top) e under, room-falls n))
       (cases-lt v n)
-
-pub raise-up : (c : List ℕ) (h : Heights) (v : ℕ) → h v ≤ raise c h v
-raise-up c h v = by (among v c)
-  where
-    by : (b : Bool) → h v ≤ cond b (suc (h v)) (h v)
-    by true = omega arith
-    by false = omega arith
 
 module _ (arrows : Arrows) (n top : ℕ) (within : Within arrows n top) where
   pub stays : (h : Heights) → Stays (seen arrows h) n

@@ -3,6 +3,7 @@ pub mod Drawing
 pub mod Ends
 pub mod Entries
 pub mod Lowest
+pub mod Outcomes
 pub mod Pigeons
 pub mod Popping
 pub mod Reaching

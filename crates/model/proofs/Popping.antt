@@ -3,12 +3,15 @@ use mathlib.Core.Path.{_≡_, refl, sym, ap, subst, _∙_, fun-ext}
 use mathlib.Core.Bool.{true, false}
 use mathlib.Core.List.{List, [], _∷_, _++_}
 use mathlib.Core.Logic.{_⊎_, inl, inr, ⊎-elim}
-use Prim.Native.Nat.{ℕ, _<_, _≤_}
+use Prim.Native.Nat.{ℕ, suc, _<_, _≤_}
 use native.Mathlib.Omega.{arith}
+use Rattle.std.specs.shelf.Lists.{All}
 use Rattle.std.specs.shelf.Sorted.{Shuffled}
+use Rattle.std.proofs.shelf.Elements.{all-weaker}
 use Rattle.std.proofs.shelf.Sorted.{shuffled-refl, shuffled-cons, shuffled-trans, shuffled-swap}
 use Rattle.model.specs.Cycles.{Arrows, Heights, seen, Cycle, Coloured, coloured, raise, Pops, Final}
-use Rattle.model.proofs.Cycles.{Apart, apart-sym, same-or-apart, cycle-kept, colours-kept, raise-comm}
+use Rattle.model.specs.Distinct.{Distinct}
+use Rattle.model.proofs.Cycles.{among-here, raise-on, raise-up, Apart, apart-sym, same-or-apart, cycle-kept, colours-kept, raise-comm}
 
 pub swap-heads : {X : Type 0} (a b : X) (xs : List X) → Shuffled (a ∷ b ∷ xs) (b ∷ a ∷ xs)
 swap-heads a b xs = shuffled-swap (a ∷ b ∷ xs) (b ∷ a ∷ xs) 0 1 (omega arith) (omega arith) refl
@@ -59,3 +62,40 @@ module _ (arrows : Arrows) where
   pub pops-join : (cs ds : List Coloured) (h h1 h2 : Heights) → Pops arrows h cs h1 → Pops arrows h1 ds h2 → Pops arrows h (cs ++ ds) h2
   pops-join [] ds h h1 h2 same rest = pops-at h1 h ds h2 (sym (fun-ext same)) rest
   pops-join (k ∷ cs) ds h h1 h2 (c, cyc, k-is, more) rest = (c, cyc, k-is, pops-join cs ds (raise c h) h1 h2 more rest)
+
+-- ---- no coloured cycle is popped twice
+
+-- the heights of k are at or above h
+abbrev Above : Heights → Coloured → Type 0
+Above h k = All (λ (x : ℕ × ℕ). h (x .0) ≤ x .1) k
+
+above-self : (h : Heights) (c : List ℕ) → Above h (coloured h c)
+above-self h [] = tt
+above-self h (v ∷ vs) = (omega arith, above-self h vs)
+
+above-lower : (h g : Heights) → ((v : ℕ) → h v ≤ g v) → (k : Coloured) → Above g k → Above h k
+above-lower h g up [] all = tt
+above-lower h g up ((v, n) ∷ more) (here, all) = (let le : h v ≤ g v = up v in omega arith, above-lower h g up more all)
+
+module _ (arrows : Arrows) where
+  pops-above : (h : Heights) (ks : List Coloured) (h2 : Heights) → Pops arrows h ks h2 → All (Above h) ks
+  pops-above h [] h2 same = tt
+  pops-above h (k ∷ ks) h2 (c, cyc, is, rest) = (
+    subst (Above h) (sym is) (above-self h c),
+    all-weaker (Above (raise c h)) (Above h) (λ y above. above-lower h (raise c h) (raise-up c h) y above) ks (pops-above (raise c h) ks h2 rest),
+  )
+
+  -- after the pop the lowest vertex of c is above the height that its colour has
+  popped-apart : (h : Heights) (c : List ℕ) (y : Coloured) → Cycle (seen arrows h) c → Above (raise c h) y → coloured h c ≡ y → ⊥
+  popped-apart h [] y cyc above same = cyc
+  popped-apart h (v ∷ vs) y cyc above same =
+      let high : Above (raise (v ∷ vs) h) (coloured h (v ∷ vs)) = subst (Above (raise (v ∷ vs) h)) (sym same) above in
+      let up : raise (v ∷ vs) h v ≡ suc (h v) = raise-on (v ∷ vs) h v (among-here v vs) in
+      omega (arith, high .0)
+
+  pub pops-distinct : (h : Heights) (ks : List Coloured) (h2 : Heights) → Pops arrows h ks h2 → Distinct ks
+  pops-distinct h [] h2 same = tt
+  pops-distinct h (k ∷ ks) h2 (c, cyc, is, rest) = (
+    all-weaker (Above (raise c h)) (λ y. k ≡ y → ⊥) (λ y above same. popped-apart h c y cyc above (sym is ∙ same)) ks (pops-above (raise c h) ks h2 rest),
+    pops-distinct (raise c h) ks h2 rest,
+  )

@@ -7,6 +7,7 @@ pub mod Ends
 pub mod Faults
 pub mod Layouts
 pub mod Orders
+pub mod Outcomes
 pub mod Picks
 pub mod Trees
 pub mod Ways
