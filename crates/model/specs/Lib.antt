@@ -7,4 +7,5 @@ pub mod Layouts
 pub mod Orders
 pub mod Picks
 pub mod Trees
+pub mod Walks
 pub mod Ways
