@@ -22,7 +22,7 @@ open-from marks v = lowest (λ u. leb v u && is-open marks u) (length marks)
 abbrev pub or-lowest : List Bool → Option ℕ → Option ℕ
 or-lowest marks pick = orOther pick (open-from marks 0)
 
--- the walk: the first open vertex from the last told on, and past the last vertex again from 0 on
+-- the walk: the first open vertex from the one last told on, else, gone round, the lowest; from a number that is no vertex, the lowest too
 abbrev pub walk-picks : ℕ → List Bool → Option ℕ
 walk-picks last marks = or-lowest marks (open-from marks last)
 
