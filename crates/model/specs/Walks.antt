@@ -30,9 +30,13 @@ walk-picks last marks = or-lowest marks (open-from marks last)
 abbrev pub if-open : List Bool → ℕ → Option ℕ
 if-open marks v = cond (is-open marks v) (Some v) None
 
--- the filed order: the vertex that stands at the place, if it is open, else the lowest open one
+-- the number that stands at the place of the list, if it is an open vertex
+abbrev pub filed-at : List ℕ → ℕ → List Bool → Option ℕ
+filed-at vertices place marks = then (nth vertices place) (if-open marks)
+
+-- the filed order: the open vertex at the place, else the lowest
 abbrev pub filed-picks : List ℕ → ℕ → List Bool → Option ℕ
-filed-picks vertices place marks = or-lowest marks (then (nth vertices place) (if-open marks))
+filed-picks vertices place marks = or-lowest marks (filed-at vertices place marks)
 
 -- the next place of a list of so many vertices; its end is the last
 abbrev pub next-place : ℕ → ℕ → ℕ

@@ -68,6 +68,7 @@ module _ (marks : List Bool) where
   within : (v : ℕ) → is-open marks v ≡ true → v < length marks
   within v is = ⊎-elim (λ lt. lt) (λ past. absurd (both-ways (is-open marks v) (getD-past marks v false past) is)) (cases-lt v (length marks))
 
+  -- what stands at a place of a list, if it is open
   entry-any : (entry : Option ℕ) → If-any (then entry (if-open marks))
   entry-any None = tt
   entry-any (Some v) = by (is-open marks v) refl

@@ -2,9 +2,7 @@
 ghost use mathlib.Core.Path.{_≡_};
 ghost use Rattle.std.specs.Of.Vec.{vec-items};
 ghost use Rattle.model.specs.Orders.{open-marks};
-ghost use Rattle.model.specs.Picks.{then};
-ghost use Rattle.model.specs.Walks.{if-open, next-place};
-ghost use Rattle.std.specs.shelf.Maps.{nth};
+ghost use Rattle.model.specs.Walks.{if-open, filed-at, next-place};
 ghost use Rattle.orders.specs.Lawful.{filed-lawful};
 ghost use Rattle.orders.specs.Told.{filed-told, filed-pick};
 use crate::open::is_open;
@@ -29,7 +27,7 @@ impl FiledOrder {
 
     // The vertex at the place, if it is open.
     fn at_place(&self, entries: &Entries) -> Option<u16>
-        ensures { λ r. ⌜ r ≡ then (nth (vec-items (now (self .entry) .vertices)) (now (self .entry) .place)) (if-open (open-marks (vec-items (now (entries .entry) .list)))) ⌝ }
+        ensures { λ r. ⌜ r ≡ filed-at (vec-items (now (self .entry) .vertices)) (now (self .entry) .place) (open-marks (vec-items (now (entries .entry) .list))) ⌝ }
     {
         if self.place < self.vertices.len() {
             if_open(entries, self.vertices[self.place])
