@@ -7,7 +7,7 @@ use native.Mathlib.Omega.{arith}
 use Rattle.std.specs.Options.{Cases, orOther}
 use Rattle.std.specs.declared.option.Option.{Option}
 use Rattle.std.specs.declared.option.Option.the-variants.{Some, None}
-use Rattle.std.proofs.shelf.Tests.{cases-lt}
+use Rattle.std.proofs.shelf.Tests.{both-ways, cases-lt, cases-order}
 use Rattle.model.specs.Picks.{first, lowest}
 use Rattle.model.proofs.Ways.{none-some, same-some}
 
@@ -78,3 +78,23 @@ module _ (test : ℕ → Bool) where
             passes = subst (λ x. test x ≡ true) same passed;
             lower = λ u below. fails u (found .lower u (subst (λ x. u < x) (sym same) below));
           }
+
+  -- only the lowest number that passes is found
+  pub lowest-is : (n v : ℕ) → Is-lowest n v → lowest test n ≡ Some v
+  lowest-is n v low = by (lowest test n) (lowest-tells n)
+    where
+      by : (o : Option ℕ) → Cases o (None-below n) (λ w. Is-lowest n w) → o ≡ Some v
+      by None none = absurd (both-ways (test v) (none v (low .within)) (low .passes))
+      by (Some w) found =
+          ⊎-elim
+          (λ same. ap Some same)
+          (⊎-elim (λ under. absurd (both-ways (test w) (low .lower w under) (found .passes))) (λ over. absurd (both-ways (test v) (found .lower v over) (low .passes))))
+          (cases-order w v)
+
+  -- where none passes, none is found
+  pub lowest-none : (n : ℕ) → None-below n → lowest test n ≡ None
+  lowest-none n none = by (lowest test n) (lowest-tells n)
+    where
+      by : (o : Option ℕ) → Cases o (None-below n) (λ w. Is-lowest n w) → o ≡ None
+      by None _ = refl
+      by (Some w) found = absurd (both-ways (test w) (none w (found .within)) (found .passes))

@@ -10,4 +10,5 @@ pub mod Orders
 pub mod Outcomes
 pub mod Picks
 pub mod Trees
+pub mod Walks
 pub mod Ways

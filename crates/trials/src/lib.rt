@@ -5,4 +5,6 @@ mod halls;
 #[cfg(test)]
 mod lines;
 #[cfg(test)]
+mod picking;
+#[cfg(test)]
 mod sheets;
