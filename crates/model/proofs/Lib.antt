@@ -7,3 +7,4 @@ pub mod Reaching
 pub mod Sounds
 pub mod Trees
 pub mod Ways
+pub mod Words

@@ -1,10 +1,13 @@
 pub mod Arrows
+pub mod Caps
 pub mod Cycles
 pub mod Distinct
 pub mod Ends
 pub mod Faults
+pub mod Filed
 pub mod Layouts
 pub mod Orders
 pub mod Picks
+pub mod Seeds
 pub mod Trees
 pub mod Ways
