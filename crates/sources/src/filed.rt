@@ -1,10 +1,9 @@
 // Arrows from a list of ports.
 ghost use mathlib.Core.Path.{_≡_};
-ghost use mathlib.Core.List.{List};
-ghost use Prim.Native.Nat.{ℕ};
 ghost use Rattle.model.specs.Filed.{lacks-cell, place, rank, filed-cells};
 ghost use Rattle.sources.specs.Lists.{filed-of};
 ghost use Rattle.std.specs.Of.Vec.{vec-items};
+ghost use Rattle.std.specs.shelf.Maps.{nth};
 use model::source::ArrowSource;
 
 // The ports stand by rising vertex without the root, then by rising index.
@@ -59,6 +58,16 @@ impl Filed {
             Some(rank(self.root, v) as usize * self.depth as usize + index as usize)
         }
     }
+
+    fn port_at(&self, at: usize) -> Option<u16>
+        ensures { λ r. ⌜ r ≡ nth (vec-items (now (self .entry) .ports)) at ⌝ }
+    {
+        if at < self.ports.len() {
+            Some(self.ports[at])
+        } else {
+            None
+        }
+    }
 }
 
 // The place of `v` among the vertices once the root is passed over.
@@ -72,7 +81,6 @@ pub impl ArrowSource for Filed as FiledArrows {
     ghost cells = { filed-of };
 
     fn port(&self, v: u16, index: u16, _degree: u16) -> Option<u16> {
-        let place = self.place(v, index)?;
-        self.ports.as_slice().get(place).copied()
+        self.port_at(self.place(v, index)?)
     }
 }

@@ -4,7 +4,9 @@ ghost use Rattle.model.specs.Seeds.{lacks-word, output-number, scrambled, seede
 use model::source::ArrowSource;
 
 const STEP: u64 = 0x9E37_79B9_7F4A_7C15;
+
 const FIRST_FACTOR: u64 = 0xBF58_476D_1CE4_E5B9;
+
 const SECOND_FACTOR: u64 = 0x94D0_49BB_1331_11EB;
 
 #[derive(Clone, Copy)]
