@@ -62,11 +62,7 @@ impl Filed {
     fn port_at(&self, at: usize) -> Option<u16>
         ensures { λ r. ⌜ r ≡ nth (vec-items (now (self .entry) .ports)) at ⌝ }
     {
-        if at < self.ports.len() {
-            Some(self.ports[at])
-        } else {
-            None
-        }
+        self.ports.get(at).copied()
     }
 }
 
