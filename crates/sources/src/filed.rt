@@ -19,8 +19,7 @@ impl Filed {
     // Takes any list: where it ends, the cells have no port.
     pub fn new(size: u16, root: u16, depth: u16, ports: Vec<u16>) -> Filed
         ensures answers { λ r. ⌜ filed-of r ≡ filed-cells size root depth (vec-items ports) ⌝ }
-        ensures deep { λ r. ⌜ r .depth ≡ depth ⌝ }
-        ensures held { λ r. ⌜ vec-items (r .ports) ≡ vec-items ports ⌝ }
+        ensures held { λ r. ⌜ r ≡ record { size = size; root = root; depth = depth; ports = ports } ⌝ }
     {
         Filed {
             size,
@@ -66,7 +65,7 @@ impl Filed {
     }
 }
 
-// The place of `v` among the vertices once the root is passed over.
+// How many vertices other than the root are below `v`. Saturating, since it is defined for the root 0 too.
 fn rank(root: u16, v: u16) -> u16
     ensures { λ r. ⌜ r ≡ rank root v ⌝ }
 {

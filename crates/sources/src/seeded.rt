@@ -9,6 +9,7 @@ const FIRST_FACTOR: u64 = 0xBF58_476D_1CE4_E5B9;
 
 const SECOND_FACTOR: u64 = 0x94D0_49BB_1331_11EB;
 
+// The port at a vertex and an index is the remainder of a word of the generator by the degree.
 #[derive(Clone, Copy)]
 pub struct Seeded {
     seed: u64,
@@ -23,13 +24,14 @@ impl Seeded {
     }
 }
 
-// Each vertex has 4,096 outputs of its own.
+// Outputs count from 1, and each vertex has 4,096 of its own.
 fn output_number(v: u16, index: u16) -> u64
     ensures { λ r. ⌜ r ≡ output-number v index ⌝ }
 {
     v as u64 * 4096 + index as u64 + 1
 }
 
+// The state steps by a constant, so that every output can be had without those before it.
 fn state_at(seed: u64, number: u64) -> u64
     ensures { λ r. ⌜ r ≡ state-at seed number ⌝ }
 {
@@ -61,8 +63,9 @@ pub impl ArrowSource for Seeded as SeededArrows {
 
     fn port(&self, v: u16, index: u16, degree: u16) -> Option<u16> {
         if lacks_word(v, index, degree) {
-            return None;
+            None
+        } else {
+            Some((word(self.seed, v, index) % degree as u64) as u16)
         }
-        Some((word(self.seed, v, index) % degree as u64) as u16)
     }
 }
