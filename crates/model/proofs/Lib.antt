@@ -12,3 +12,4 @@ pub mod Sounds
 pub mod Trails
 pub mod Trees
 pub mod Ways
+pub mod Words

@@ -1,14 +1,17 @@
 pub mod Arrows
 pub mod Calls
+pub mod Caps
 pub mod Cycles
 pub mod Distinct
 pub mod Draws
 pub mod Ends
 pub mod Faults
+pub mod Filed
 pub mod Layouts
 pub mod Orders
 pub mod Outcomes
 pub mod Picks
+pub mod Seeds
 pub mod Trees
 pub mod Walks
 pub mod Ways

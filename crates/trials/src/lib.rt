@@ -1,6 +1,8 @@
 // Examples and limits, tried on the crates below. They stand apart, since a crate with tests is proved twice.
 
 #[cfg(test)]
+mod arrows;
+#[cfg(test)]
 mod halls;
 #[cfg(test)]
 mod lines;
