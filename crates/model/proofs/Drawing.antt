@@ -157,7 +157,7 @@ module _ (p : Layout) (a : Cells) (sound : Sound p) where
     pub listed : h .list ≡ map record-of cs ++ drop (length cs) l
 
   -- the same after a call
-  abbrev Keeps : {A : Type 0} → List Pop → List Coloured → After A → Type 0
+  abbrev pub Keeps : {A : Type 0} → List Pop → List Coloured → After A → Type 0
   Keeps l cs x = Good l (x .held) (cs ++ x .popped)
 
   same-good : (l : List Pop) (h : Held) (cs : List Coloured) → Good l h cs → Good l h (cs ++ [])
@@ -203,7 +203,11 @@ module _ (p : Layout) (a : Cells) (sound : Sound p) where
         listed = good .listed;
       })
 
-  trail-good : (l : List Pop) (h : Held) (cs : List Coloured) → Good l h cs → (t : Trail) → Told (shown p a (h .draw .entries)) (is-settled (h .draw .entries)) (p .size) t → Keeps l cs (by-trail h t)
+  -- the cycle of a trail that came round
+  pub round-cycle : (f : ℕ → Option ℕ) (path l : List ℕ) → Round f path l → Cycle f (turned l)
+  round-cycle f path l round = subst (λ x. Cycle f (turned x)) (sym (round .is)) (turned-cycle f (round .first) (round .rest) (subst Distinct (round .is) (round .distinct)) (round .way))
+
+  pub trail-good : (l : List Pop) (h : Held) (cs : List Coloured) → Good l h cs → (t : Trail) → Told (shown p a (h .draw .entries)) (is-settled (h .draw .entries)) (p .size) t → Keeps l cs (by-trail h t)
   trail-good l h cs good t tells = by (t .loop) (tells .ends)
     where
       f : ℕ → Option ℕ
@@ -213,13 +217,11 @@ module _ (p : Layout) (a : Cells) (sound : Sound p) where
       by None (leaves, under) = settle-good l h cs good (t .path) (tells .inside) leaves under
       by (Some l2) round = room (ltb (h .draw .pops) (length (h .list))) refl
         where
-          cyc : Cycle f (turned l2)
-          cyc = subst (λ x. Cycle f (turned x)) (sym (round .is)) (turned-cycle f (round .first) (round .rest) (subst Distinct (round .is) (round .distinct)) (round .way))
           room : (b : Bool) → ltb (h .draw .pops) (length (h .list)) ≡ b → Keeps l cs (cond b (pops-cycle h (turned l2)) (refused h fault.ListFull))
-          room true is = pop-good l h cs good (turned l2) cyc (λ x on. tells .all-open x (round .on-path x (turned-among l2 x on))) (ltb-true _ _ is)
+          room true is = pop-good l h cs good (turned l2) (round-cycle f (t .path) l2 round) (λ x on. tells .all-open x (round .on-path x (turned-among l2 x on))) (ltb-true _ _ is)
           room false is = same-good l h cs good
 
-  shown-to : (es : List Entry) (v : ℕ) → v < p .size → Told (shown p a es) (is-settled es) (p .size) (trail p a es v)
+  pub shown-to : (es : List Entry) (v : ℕ) → v < p .size → Told (shown p a es) (is-settled es) (p .size) (trail p a es v)
   shown-to es v low = told (shown p a es) (is-settled es) (p .size) (shown-stays es .from) (shown-stays es .to) (suc (p .size)) [] v (omega arith) low tt tt (λ x on. absurd (false≢true on))
 
   -- the faults of a try that come before the trail: without one, v is a vertex of the plan

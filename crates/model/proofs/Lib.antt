@@ -2,6 +2,7 @@ pub mod Cycles
 pub mod Drawing
 pub mod Ends
 pub mod Entries
+pub mod Finishing
 pub mod Lowest
 pub mod Outcomes
 pub mod Pigeons

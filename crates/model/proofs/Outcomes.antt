@@ -43,22 +43,22 @@ module _ (p : Layout) (a : Cells) (sound : Sound p) where
   pub end-only : (ks : List Coloured) (h : Heights) → Lowest-pops (sight p a) flat ks h → Final (sight p a) h → (ks ≡ end-of p a .cycles) × ((v : ℕ) → h v ≡ end-of p a .heights v)
   end-only ks h low fin = end-one (sight p a) flat ks (end-of p a .cycles) h (end-of p a .heights) low (end-law .0) fin (end-law .1)
 
-  module _ (l : List Pop) (h : Held) (cs : List Coloured) (good : Good p a sound l h cs) where
-    -- what was popped is a part of what the end popped
-    pub popped-among : (rs : List Coloured) × Shuffled (end-of p a .cycles) (cs ++ rs) × Pops (sight p a) (height-of (h .draw .entries)) rs (end-of p a .heights)
-    popped-among = abelian (sight p a) cs (end-of p a .cycles) flat (height-of (h .draw .entries)) (end-of p a .heights) (good .popped) end-pops (end-law .1)
+  -- any popping sequence from height 0 is a part of the end's
+  pub pops-among : (ks : List Coloured) (h : Heights) → Pops (sight p a) flat ks h → (rs : List Coloured) × Shuffled (end-of p a .cycles) (ks ++ rs) × Pops (sight p a) h rs (end-of p a .heights)
+  pops-among ks h pops = abelian (sight p a) ks (end-of p a .cycles) flat h (end-of p a .heights) pops end-pops (end-law .1)
 
+  pub pops-few : (ks : List Coloured) (h : Heights) → Pops (sight p a) flat ks h → length ks ≤ length (end-of p a .cycles)
+  pops-few ks h pops =
+      let (rs, shuffled, rest) = pops-among ks h pops in
+      omega (arith, length-shuffled (end-of p a .cycles) (ks ++ rs) shuffled, length-append ks rs)
+
+  module _ (l : List Pop) (h : Held) (cs : List Coloured) (good : Good p a sound l h cs) where
     pub popped-once : Distinct cs
     popped-once = pops-distinct (sight p a) flat cs (height-of (h .draw .entries)) (good .popped)
-
-    pub popped-few : length cs ≤ length (end-of p a .cycles)
-    popped-few =
-        let (rs, shuffled, rest) = popped-among in
-        omega (arith, length-shuffled (end-of p a .cycles) (cs ++ rs) shuffled, length-append cs rs)
 
     -- with nothing open it is all that the end popped
     pub ended-at : none-open (h .draw .entries) ≡ true → Shuffled (end-of p a .cycles) cs × ((v : ℕ) → height-of (h .draw .entries) v ≡ end-of p a .heights v)
     ended-at none =
-        let (rs, shuffled, rest) = popped-among in
+        let (rs, shuffled, rest) = pops-among cs (height-of (h .draw .entries)) (good .popped) in
         let (nothing, same) = none-left (sight p a) rs (height-of (h .draw .entries)) (end-of p a .heights) rest (ended-final p a sound l h cs good none) in
         (subst (λ x. Shuffled (end-of p a .cycles) x) (ap (λ x. cs ++ x) nothing ∙ append-nil cs) shuffled, same)

@@ -104,6 +104,11 @@ abbrev pub none-open : List Entry → Bool
 none-open [] = true
 none-open (e ∷ es) = cond (e .settled) (none-open es) false
 
+-- how many vertices are open
+abbrev pub open-count : List Entry → ℕ
+open-count [] = 0
+open-count (e ∷ es) = cond (e .settled) (open-count es) (suc (open-count es))
+
 -- the run stopped after so many tries
 abbrev pub stopped : Held → ℕ → Stop → After (Result (ℕ × Stop) DrawFault)
 stopped h tries why = record { held = h; answer = Ok (tries, why); popped = []; told = [] }
