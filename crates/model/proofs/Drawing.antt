@@ -178,6 +178,13 @@ module _ (p : Layout) (a : Cells) (sound : Sound p) where
       ∙ ap (λ x. x ++ drop (length cs + 1) l) (sym (map-push record-of cs k))
       ∙ ap (λ m. map record-of (cs ++ k ∷ []) ++ drop m l) (sym pushed)
 
+  -- its heights come from popping one more
+  pub pop-pops : (l : List Pop) (h : Held) (cs : List Coloured) → Good l h cs → (c : List ℕ) → Cycle (shown p a (h .draw .entries)) c
+    → Pops (sight p a) flat (cs ++ coloured (height-of (h .draw .entries)) c ∷ []) (height-of (changed higher c (h .draw .entries)))
+  pop-pops l h cs good c cyc =
+      let es = h .draw .entries in
+      pops-join (sight p a) cs (coloured (height-of es) c ∷ []) flat (height-of es) (height-of (changed higher c es)) (good .popped) (c, cyc, refl, λ v. sym (raised-heights c es (inside es (good .sane .sized) c cyc) v))
+
   pop-good : (l : List Pop) (h : Held) (cs : List Coloured) → Good l h cs → (c : List ℕ) → Cycle (shown p a (h .draw .entries)) c → ((x : ℕ) → among x c ≡ true → is-settled (h .draw .entries) x ≡ false)
     → h .draw .pops < length (h .list) → Keeps l cs (pops-cycle h c)
   pop-good l h cs good c cyc opens room =
@@ -186,7 +193,7 @@ module _ (p : Layout) (a : Cells) (sound : Sound p) where
       record {
         rooted = good .rooted;
         sane = pop-sane es (good .sane) c cyc opens;
-        popped = pops-join (sight p a) cs (k ∷ []) flat (height-of es) (height-of (changed higher c es)) (good .popped) (c, cyc, refl, λ v. sym (raised-heights c es (inside es (good .sane .sized) c cyc) v));
+        popped = pop-pops l h cs good c cyc;
         counted = ap suc (good .counted) ∙ (let pushed : length (cs ++ k ∷ []) ≡ length cs + 1 = length-append cs (k ∷ []) in omega arith);
         listed = list-more cs k l (h .list) (h .draw .pops) (good .counted) (good .listed) room;
       }
