@@ -10,6 +10,7 @@ pub mod Popping
 pub mod Reaching
 pub mod Sights
 pub mod Sounds
+pub mod Sums
 pub mod Trails
 pub mod Trees
 pub mod Ways
