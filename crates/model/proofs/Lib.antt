@@ -1,3 +1,4 @@
+pub mod Agreeing
 pub mod Cycles
 pub mod Drawing
 pub mod Ends

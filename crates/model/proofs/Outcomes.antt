@@ -52,13 +52,17 @@ module _ (p : Layout) (a : Cells) (sound : Sound p) where
       let (rs, shuffled, rest) = pops-among ks h pops in
       omega (arith, length-shuffled (end-of p a .cycles) (ks ++ rs) shuffled, length-append ks rs)
 
+  -- a sequence to heights at which no cycle is left is the end's, whatever its turn
+  pub to-end : (ks : List Coloured) (h : Heights) → Pops (sight p a) flat ks h → Final (sight p a) h → Shuffled (end-of p a .cycles) ks × ((v : ℕ) → h v ≡ end-of p a .heights v)
+  to-end ks h pops fin =
+      let (rs, shuffled, rest) = pops-among ks h pops in
+      let (nothing, same) = none-left (sight p a) rs h (end-of p a .heights) rest fin in
+      (subst (λ x. Shuffled (end-of p a .cycles) x) (ap (λ x. ks ++ x) nothing ∙ append-nil ks) shuffled, same)
+
   module _ (l : List Pop) (h : Held) (cs : List Coloured) (good : Good p a sound l h cs) where
     pub popped-once : Distinct cs
     popped-once = pops-distinct (sight p a) flat cs (height-of (h .draw .entries)) (good .popped)
 
     -- with nothing open it is all that the end popped
     pub ended-at : none-open (h .draw .entries) ≡ true → Shuffled (end-of p a .cycles) cs × ((v : ℕ) → height-of (h .draw .entries) v ≡ end-of p a .heights v)
-    ended-at none =
-        let (rs, shuffled, rest) = pops-among cs (height-of (h .draw .entries)) (good .popped) in
-        let (nothing, same) = none-left (sight p a) rs (height-of (h .draw .entries)) (end-of p a .heights) rest (ended-final p a sound l h cs good none) in
-        (subst (λ x. Shuffled (end-of p a .cycles) x) (ap (λ x. cs ++ x) nothing ∙ append-nil cs) shuffled, same)
+    ended-at none = to-end cs (height-of (h .draw .entries)) (good .popped) (ended-final p a sound l h cs good none)

@@ -13,7 +13,7 @@ use Rattle.std.specs.declared.result.Result.{Result}
 use Rattle.std.specs.declared.result.Result.the-variants.{Ok, Err}
 use Rattle.std.proofs.shelf.Tests.{eqb-true, eq-eqb, ltb-true, ltb-false, not-true, not-false, both-ways, cond-true, cases-lt, cases-order}
 use mathlib.Core.Logic.{⊎-elim}
-use Rattle.model.specs.Layouts.{Layout, Sound}
+use Rattle.model.specs.Layouts.{Layout, Sound, is-root}
 use Rattle.model.specs.Picks.{lowest}
 use Rattle.model.specs.Ways.{Leads}
 use Rattle.model.specs.Trees.{follow, comes-to, lowest-lost, verdict, tree-check, Reaches, Is-tree, Is-lost, Tree-law}
@@ -42,6 +42,14 @@ module _ (p : Layout) (sound : Sound p) (ports : List ℕ) where
       by : (b : Bool) → cond b None (p .target v (getD ports v 0)) ≡ Some w → w < p .size
       by true some = absurd (none-some None w refl some)
       by false some = target-below p sound v (getD ports v 0) w some
+
+  -- only vertices of the plan lead on
+  pub follow-from : (v w : ℕ) → follow p ports v ≡ Some w → v < p .size
+  follow-from v w is = by (is-root p v) is
+    where
+      by : (b : Bool) → cond b None (p .target v (getD ports v 0)) ≡ Some w → v < p .size
+      by true some = absurd (none-some None w refl some)
+      by false some = ⊎-elim (λ lt. lt) (λ ge. absurd (none-some _ w (sound .target-none v (getD ports v 0) (let none : p .degree v ≡ 0 = sound .degree-none v ge in omega arith)) some)) (cases-lt v (p .size))
 
   abbrev lost : ℕ → Bool
   lost v = not (comes-to (follow p ports) (p .root) (p .size) v)

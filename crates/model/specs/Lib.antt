@@ -4,6 +4,7 @@ pub mod Caps
 pub mod Cycles
 pub mod Distinct
 pub mod Draws
+pub mod Endings
 pub mod Ends
 pub mod Faults
 pub mod Filed
