@@ -7,6 +7,7 @@ pub mod Draws
 pub mod Ends
 pub mod Faults
 pub mod Filed
+pub mod Fillings
 pub mod Layouts
 pub mod Orders
 pub mod Outcomes

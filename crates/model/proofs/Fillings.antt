@@ -1,0 +1,2 @@
+-- Fillings. Assumes nothing.
+use mathlib.Core.Path.{_≡_, refl}
