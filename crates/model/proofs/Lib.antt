@@ -1,10 +1,13 @@
 pub mod Agreeing
+pub mod Counting
 pub mod Cycles
 pub mod Drawing
 pub mod Ends
 pub mod Entries
+pub mod Fillings
 pub mod Finishing
 pub mod Lowest
+pub mod Members
 pub mod Outcomes
 pub mod Pigeons
 pub mod Popping

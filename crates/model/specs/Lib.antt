@@ -8,10 +8,12 @@ pub mod Endings
 pub mod Ends
 pub mod Faults
 pub mod Filed
+pub mod Fillings
 pub mod Layouts
 pub mod Orders
 pub mod Outcomes
 pub mod Picks
+pub mod Reseats
 pub mod Seeds
 pub mod Trees
 pub mod Walks
