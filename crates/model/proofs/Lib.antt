@@ -1,5 +1,6 @@
 pub mod Counting
 pub mod Cycles
+pub mod Drained
 pub mod Drawing
 pub mod Ends
 pub mod Entries
