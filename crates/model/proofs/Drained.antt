@@ -16,6 +16,7 @@ use Rattle.model.specs.Fillings.{drained}
 use Rattle.model.specs.Layouts.{Layout, Sound}
 
 module _ (r : ℕ) where
+  -- n numbers from a on, without the root
   abbrev others : ℕ → ℕ → List ℕ
   others a n = kept-by (λ v. not (eqb v r)) (counting a n)
 
@@ -30,6 +31,7 @@ module _ (r : ℕ) where
   past-root a zero past = refl
   past-root a (suc n) past = step-other a n (omega arith) ∙ ap (λ xs. a ∷ xs) (past-root (a + 1) n (omega arith))
 
+  -- the root among them, one is left out
   others-long : (a n : ℕ) → a ≤ r → r < a + n → suc (length (others a n)) ≡ n
   others-long a zero low high = absurd (omega arith)
   others-long a (suc n) low high = at (cases-eq a r) (others-long (a + 1) n)
@@ -55,6 +57,7 @@ module _ (r : ℕ) where
       at (inr apart) (suc i) far short on = ap (λ xs. getD xs (suc i) 0) (step-other a n apart) ∙ on i (omega arith) (omega arith) (omega arith) ∙ omega arith
 
 module _ (p : Layout) (sound : Sound p) where
+  -- one less than all vertices
   pub drained-long : length (drained p) ≡ p .size - 1
   drained-long = let e : suc (length (drained p)) ≡ p .size = others-long (p .root) 0 (p .size) (omega arith) (omega (arith, sound .root-below)) in omega arith
 
@@ -65,6 +68,7 @@ module _ (p : Layout) (sound : Sound p) where
     (λ high. ap (λ b. getD (drained p) (cond b v (v - 1)) 0) (le-ltb v (p .root) high) ∙ above-root (p .root) 0 (p .size) (v - 1) (omega arith) (omega arith) (omega arith) ∙ omega arith)
     (cases-lt v (p .root))
 
+  -- the rank is below their number
   pub rank-below : (v : ℕ) → (v ≡ p .root → ⊥) → v < p .size → rank (p .root) v < p .size - 1
   rank-below v apart within = ⊎-elim
     (λ low. subst (λ b. cond b v (v - 1) < p .size - 1) (sym (lt-ltb v (p .root) low)) (omega (arith, sound .root-below)))

@@ -28,9 +28,11 @@ use Rattle.model.proofs.Members.{all-in, all-from-in, in-map, map-in, in-joine
 
 -- ---- the list of all
 
+-- the port before each of the lists
 abbrev before : List (List ℕ) → ℕ → List (List ℕ)
 before rest port = map (λ ports. port ∷ ports) rest
 
+-- what is within the bounds is listed
 pub listed : (bs ports : List ℕ) → Within-bounds ports bs → In ports (lists-within bs)
 listed [] [] within = inl refl
 listed [] (x ∷ xs) never = absurd never
@@ -38,6 +40,7 @@ listed (b ∷ bs) [] never = absurd never
 listed (b ∷ bs) (x ∷ xs) (below, within) =
     in-joined (before (lists-within bs)) (counting 0 b) x (x ∷ xs) (in-counting 0 b x (omega arith) (omega arith)) (in-map (λ ports. x ∷ ports) (lists-within bs) xs (listed bs xs within))
 
+-- what is listed is within the bounds
 pub listed-within : (bs ports : List ℕ) → In ports (lists-within bs) → Within-bounds ports bs
 listed-within [] ports (inl here) = subst (λ xs. Within-bounds xs []) (sym here) tt
 listed-within [] ports (inr never) = absurd never
@@ -68,6 +71,7 @@ distinct-before rest d (x ∷ xs) (fresh, dp) =
       (all-from-in (λ ports. Fresh ports (joined (before rest) xs)) (before rest x) (λ ports at.
         all-from-in (λ other. ports ≡ other → ⊥) (joined (before rest) xs) (λ other there. apart-before rest x xs fresh ports other at there)))
 
+-- each is listed once
 pub distinct-lists : (bs : List ℕ) → Distinct (lists-within bs)
 distinct-lists [] = (tt, tt)
 distinct-lists (b ∷ bs) = distinct-before (lists-within bs) (distinct-lists bs) (counting 0 b) (distinct-counting 0 b)
@@ -84,19 +88,23 @@ fillings-once p depth = distinct-lists (bounds p depth)
 
 -- ---- the bounds
 
+-- where there is a cell the depth is not 0
 depth-some : (m depth i : ℕ) → i < m * depth → 0 < depth
 depth-some m zero i within = absurd (omega (arith, mul-zero m))
 depth-some m (suc depth) i within = omega arith
 
 module _ (degree : ℕ → ℕ) (depth : ℕ) where
+  -- the degree of each vertex, as often as the depth says
   abbrev each-bound : List ℕ → List ℕ
   each-bound vs = joined (λ v. replicate depth (degree v)) vs
 
+  -- there are as many as vertices times the depth
   each-bound-long : (vs : List ℕ) → length (each-bound vs) ≡ length vs * depth
   each-bound-long [] = sym (zero-mul depth)
   each-bound-long (v ∷ vs) =
       length-append (replicate depth (degree v)) (each-bound vs) ∙ omega (arith, length-replicate depth (degree v), each-bound-long vs, suc-mul (length vs) depth)
 
+  -- the one at i is the degree of the vertex that division finds
   each-bound-at : (vs : List ℕ) (i : ℕ) → i < length vs * depth → getD (each-bound vs) i 0 ≡ degree (getD vs (i / depth) 0)
   each-bound-at [] i within = absurd (omega (arith, zero-mul depth))
   each-bound-at (v ∷ vs) i within = at (cases-lt i depth) (each-bound-at vs (i - depth))
@@ -112,12 +120,14 @@ module _ (degree : ℕ → ℕ) (depth : ℕ) where
           getD-append-right (replicate depth (degree v)) (each-bound vs) depth i 0 (length-replicate depth (degree v)) high ∙ on (omega (arith, suc-mul (length vs) depth))
             ∙ ap (λ j. degree (getD (v ∷ vs) j 0)) (sym (div-eq-sub-div some high ∙ add-one ((i - depth) / depth)))
 
+-- ports below their bounds, place by place
 within-from : (ports bs : List ℕ) → length ports ≡ length bs → ((i : ℕ) → i < length ports → getD ports i 0 < getD bs i 0) → Within-bounds ports bs
 within-from [] [] long below = tt
 within-from [] (b ∷ bs) long below = absurd (omega arith)
 within-from (x ∷ xs) [] long below = absurd (omega arith)
 within-from (x ∷ xs) (b ∷ bs) long below = (below 0 (omega arith), within-from xs bs (omega arith) (λ i short. below (suc i) (omega arith)))
 
+-- another port below the bound of its place
 within-set : (ports bs : List ℕ) (i q : ℕ) → Within-bounds ports bs → q < getD bs i 0 → Within-bounds (set ports i q) bs
 within-set [] [] i q within below = tt
 within-set [] (b ∷ bs) i q never below = absurd never
@@ -125,6 +135,7 @@ within-set (x ∷ xs) [] i q never below = absurd never
 within-set (x ∷ xs) (b ∷ bs) zero q (first, within) below = (below, within)
 within-set (x ∷ xs) (b ∷ bs) (suc i) q (first, within) below = (first, within-set xs bs i q within below)
 
+-- other places are as they were
 nth-set-other : (xs : List ℕ) (i j q : ℕ) → (j ≡ i → ⊥) → nth (set xs i q) j ≡ nth xs j
 nth-set-other [] i j q apart = refl
 nth-set-other (x ∷ xs) zero zero q apart = absurd (apart refl)
@@ -133,12 +144,15 @@ nth-set-other (x ∷ xs) (suc i) zero q apart = refl
 nth-set-other (x ∷ xs) (suc i) (suc j) q apart = nth-set-other xs i j q (λ same. apart (ap suc same))
 
 module _ (p : Layout) (sound : Sound p) (depth : ℕ) where
+  -- one bound for each cell
   pub bounds-long : length (bounds p depth) ≡ cell-count p depth
   bounds-long = each-bound-long (p .degree) depth (drained p) ∙ ap (λ m. m * depth) (drained-long p sound)
 
+  -- it is the degree of the vertex of the cell
   pub bounds-at : (i : ℕ) → i < cell-count p depth → getD (bounds p depth) i 0 ≡ p .degree (vertex-at p depth i)
   bounds-at i within = each-bound-at (p .degree) depth (drained p) i (subst (λ m. i < m * depth) (sym (drained-long p sound)) within)
 
+  -- a filling has one port for each cell
   pub filling-long : (ports : List ℕ) → Filling p depth ports → length ports ≡ cell-count p depth
   filling-long ports filling = length-each (λ port b. port < b) ports (bounds p depth) filling ∙ bounds-long
 
@@ -161,9 +175,11 @@ module _ (p : Layout) (sound : Sound p) (depth : ℕ) where
       ap (λ b. then (cond b None (Some (cell-place p depth v k))) (nth ports)) (or-right (eqb v (p .root)) _ (or-right (leb (p .size) v) _ (le-leb depth k past)))
 
   module _ (v k : ℕ) (apart : v ≡ p .root → ⊥) (in-plan : v < p .size) (shallow : k < depth) where
+    -- the place is among those of the cells
     pub place-below : cell-place p depth v k < cell-count p depth
     place-below = digits-lt (rank-below p sound v apart in-plan) shallow
 
+    -- the cell at the place is one of v
     pub vertex-there : vertex-at p depth (cell-place p depth v k) ≡ v
     vertex-there = ap (λ i. getD (drained p) i 0) (digits-div (rank (p .root) v) shallow) ∙ drained-at p sound v apart in-plan
 
@@ -178,12 +194,15 @@ module _ (p : Layout) (sound : Sound p) (depth : ℕ) where
     cell-nth ports d = ap (λ o. then o (nth ports)) place-there
 
     module _ (ports : List ℕ) (filling : Filling p depth ports) where
+      -- a filling reaches past the place
       pub place-inside : cell-place p depth v k < length ports
       place-inside = subst (λ n. cell-place p depth v k < n) (sym (filling-long ports filling)) place-below
 
+      -- the cell holds the port at its place
       pub cell-port : (d : ℕ) → filed-cells (p .size) (p .root) depth ports v k d ≡ Some (getD ports (cell-place p depth v k) 0)
       cell-port d = cell-nth ports d ∙ nth-getD ports (cell-place p depth v k) 0 place-inside
 
+      -- which is a port of v
       pub port-below : getD ports (cell-place p depth v k) 0 < p .degree v
       port-below = subst (λ u. getD ports (cell-place p depth v k) 0 < p .degree u) vertex-there (filling-fills ports filling .1 (cell-place p depth v k) place-below)
 
@@ -192,7 +211,7 @@ module _ (p : Layout) (sound : Sound p) (depth : ℕ) where
       cell-there d = (getD ports (cell-place p depth v k) 0, cell-port d, port-below)
 
   -- cells at one place are one cell
-  same-place : (v k : ℕ) → (v ≡ p .root → ⊥) → v < p .size → k < depth → (w j : ℕ) → (w ≡ p .root → ⊥) → w < p .size → j < depth → cell-place p depth w j ≡ cell-place p depth v k → (w ≡ v) × (j ≡ k)
+  pub same-place : (v k : ℕ) → (v ≡ p .root → ⊥) → v < p .size → k < depth → (w j : ℕ) → (w ≡ p .root → ⊥) → w < p .size → j < depth → cell-place p depth w j ≡ cell-place p depth v k → (w ≡ v) × (j ≡ k)
   same-place v k v-apart v-in k-shallow w j w-apart w-in j-shallow same =
       (sym (vertex-there w j w-apart w-in j-shallow) ∙ ap (vertex-at p depth) same ∙ vertex-there v k v-apart v-in k-shallow,
         sym (digits-mod (rank (p .root) w) j-shallow) ∙ ap (λ i. i % depth) same ∙ digits-mod (rank (p .root) v) k-shallow)
