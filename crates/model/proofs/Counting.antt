@@ -2,8 +2,8 @@
 use mathlib.Core.Path.{_≡_, refl, sym, ap, subst, _∙_}
 use mathlib.Core.Bool.{Bool, true}
 use mathlib.Core.List.{List, [], _∷_, map}
-use mathlib.Core.Logic.{_⊎_, inl, inr}
-use Prim.Native.Nat.{ℕ, suc, _≤_}
+use mathlib.Core.Logic.{inl, inr}
+use Prim.Native.Nat.{suc, _≤_}
 use native.Mathlib.Omega.{arith}
 use lib.ListN.{length}
 use Rattle.std.specs.shelf.Lists.{All, countBy, kept-by}
@@ -19,11 +19,13 @@ module _ {X : Type 0} where
   removed x (y ∷ ys) (inl here) = ys
   removed x (y ∷ ys) (inr later) = y ∷ removed x ys later
 
+  -- it is one shorter
   length-removed : (x : X) (ys : List X) (there : In x ys) → length ys ≡ suc (length (removed x ys there))
   length-removed x [] never = absurd never
   length-removed x (y ∷ ys) (inl here) = refl
   length-removed x (y ∷ ys) (inr later) = ap suc (length-removed x ys later)
 
+  -- whatever differs from x is still there
   in-removed : (x : X) (ys : List X) (there : In x ys) (z : X) → In z ys → (x ≡ z → ⊥) → In z (removed x ys there)
   in-removed x [] never z at apart = absurd never
   in-removed x (y ∷ ys) (inl here) z (inl same) apart = absurd (apart (here ∙ sym same))
@@ -45,6 +47,7 @@ module _ {X : Type 0} where
   abbrev pub There-and-back : List X → (X → Bool) → (X → Bool) → (X → X) → (X → X) → Type 0
   There-and-back xs P Q f g = (x : X) → In x xs → P x ≡ true → In (f x) xs × (Q (f x) ≡ true) × (g (f x) ≡ x)
 
+  -- so what passes P is at most as much as what passes Q
   pub count-at-most : (xs : List X) (P Q : X → Bool) (f g : X → X) → Distinct xs → There-and-back xs P Q f g → countBy P xs ≤ countBy Q xs
   count-at-most xs P Q f g d there =
       omega (arith, length-kept-by P xs, length-kept-by Q xs, length-map (kept-by P xs) f,

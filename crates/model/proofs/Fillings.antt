@@ -1,36 +1,38 @@
 -- Fillings: the list of them has each once and nothing else, and what their cells are. Assumes nothing.
 use mathlib.Core.Path.{_≡_, refl, sym, ap, subst, _∙_}
-use mathlib.Core.Bool.{Bool, true, false, cond, not, _||_}
-use mathlib.Core.List.{List, [], _∷_, _++_, map}
+use mathlib.Core.Bool.{true, false, cond}
+use mathlib.Core.List.{List, [], _∷_, map}
 use mathlib.Core.Logic.{_⊎_, inl, inr, ⊎-elim}
-use Prim.Native.Nat.{ℕ, zero, suc, _+_, _-_, _*_, _/_, _<_, _≤_}
-use native.Mathlib.Nat.{mul-zero, zero-mul, suc-mul, div-lt-iff-lt-mul, div-eq-of-lt, add-div-left}
+use Prim.Native.Nat.{ℕ, zero, suc, _-_, _*_, _/_, _%_, _<_, _≤_}
+use native.Mathlib.Nat.{mul-zero, zero-mul, suc-mul, div-eq-of-lt, div-eq-sub-div}
+use native.Mathlib.Numerals.{add-one}
 use native.Mathlib.Omega.{arith}
 use lib.Arith.{digits-lt, digits-div, digits-mod}
-use lib.Dec.{eqb, leb, ltb}
+use lib.Dec.{eqb, leb}
 use lib.ListN.{length, getD, set, replicate}
 use Rattle.std.specs.Iters.{counting}
-use Rattle.std.specs.shelf.Lists.{All, Each, joined, kept-by}
+use Rattle.std.specs.shelf.Lists.{joined}
 use Rattle.std.specs.shelf.Maps.{nth}
-use Rattle.std.specs.declared.option.Option.{Option}
 use Rattle.std.specs.declared.option.Option.the-variants.{Some, None}
-use Rattle.std.proofs.shelf.Counted.{length-counting, getD-counting}
 use Rattle.std.proofs.shelf.Elements.{length-each, each-getD}
-use Rattle.std.proofs.shelf.Lists.{length-append, length-replicate, length-set, getD-replicate, getD-append-left, getD-append-right, getD-set-same, getD-set-other}
-use Rattle.std.proofs.shelf.Maps.{nth-getD, nth-past}
-use Rattle.std.proofs.shelf.Tests.{cases-lt, cases-eq, eq-eqb, ne-eqb, lt-ltb, le-ltb, le-leb, lt-leb, or-from, or-right}
+use Rattle.std.proofs.shelf.Lists.{length-append, length-replicate, getD-replicate, getD-append-left, getD-append-right, getD-set-same}
+use Rattle.std.proofs.shelf.Maps.{nth-getD}
+use Rattle.std.proofs.shelf.Tests.{cases-lt, cases-bool, ne-eqb, eqb-false, le-leb, lt-leb, leb-false, or-from, or-right, or-parts}
 use Rattle.model.specs.Distinct.{In, Fresh, Distinct}
 use Rattle.model.specs.Filed.{rank, lacks-cell, place, filed-cells}
 use Rattle.model.specs.Fillings.{drained, cell-count, cell-place, vertex-at, bounds, Within-bounds, Filling, Fills, lists-within, fillings}
-use Rattle.model.specs.Layouts.{Layout, Sound, is-root}
+use Rattle.model.specs.Layouts.{Layout, Sound}
 use Rattle.model.specs.Picks.{then}
+use Rattle.model.proofs.Drained.{drained-long, drained-at, rank-below}
 use Rattle.model.proofs.Members.{all-in, all-from-in, in-map, map-in, in-joined, joined-in, in-counting, counting-in, distinct-append, distinct-map, distinct-counting}
 
 -- ---- the list of all
 
+-- the port before each of the lists
 abbrev before : List (List ℕ) → ℕ → List (List ℕ)
 before rest port = map (λ ports. port ∷ ports) rest
 
+-- what is within the bounds is listed
 pub listed : (bs ports : List ℕ) → Within-bounds ports bs → In ports (lists-within bs)
 listed [] [] within = inl refl
 listed [] (x ∷ xs) never = absurd never
@@ -38,6 +40,7 @@ listed (b ∷ bs) [] never = absurd never
 listed (b ∷ bs) (x ∷ xs) (below, within) =
     in-joined (before (lists-within bs)) (counting 0 b) x (x ∷ xs) (in-counting 0 b x (omega arith) (omega arith)) (in-map (λ ports. x ∷ ports) (lists-within bs) xs (listed bs xs within))
 
+-- what is listed is within the bounds
 pub listed-within : (bs ports : List ℕ) → In ports (lists-within bs) → Within-bounds ports bs
 listed-within [] ports (inl here) = subst (λ xs. Within-bounds xs []) (sym here) tt
 listed-within [] ports (inr never) = absurd never
@@ -68,6 +71,7 @@ distinct-before rest d (x ∷ xs) (fresh, dp) =
       (all-from-in (λ ports. Fresh ports (joined (before rest) xs)) (before rest x) (λ ports at.
         all-from-in (λ other. ports ≡ other → ⊥) (joined (before rest) xs) (λ other there. apart-before rest x xs fresh ports other at there)))
 
+-- each is listed once
 pub distinct-lists : (bs : List ℕ) → Distinct (lists-within bs)
 distinct-lists [] = (tt, tt)
 distinct-lists (b ∷ bs) = distinct-before (lists-within bs) (distinct-lists bs) (counting 0 b) (distinct-counting 0 b)
@@ -82,60 +86,165 @@ fillings-only p depth ports there = listed-within (bounds p depth) ports there
 pub fillings-once : (p : Layout) (depth : ℕ) → Distinct (fillings p depth)
 fillings-once p depth = distinct-lists (bounds p depth)
 
--- ---- the vertices without the root
+-- ---- the bounds
 
-module _ (r : ℕ) where
-  abbrev others : ℕ → ℕ → List ℕ
-  others a n = kept-by (λ v. not (eqb v r)) (counting a n)
+-- where there is a cell the depth is not 0
+depth-some : (m depth i : ℕ) → i < m * depth → 0 < depth
+depth-some m zero i within = absurd (omega (arith, mul-zero m))
+depth-some m (suc depth) i within = omega arith
 
-  step-other : (a n : ℕ) → (a ≡ r → ⊥) → others a (suc n) ≡ a ∷ others (a + 1) n
-  step-other a n apart = ap (λ b. cond (not b) (a ∷ others (a + 1) n) (others (a + 1) n)) (ne-eqb a r apart)
+module _ (degree : ℕ → ℕ) (depth : ℕ) where
+  -- the degree of each vertex, as often as the depth says
+  abbrev each-bound : List ℕ → List ℕ
+  each-bound vs = joined (λ v. replicate depth (degree v)) vs
 
-  step-root : (a n : ℕ) → a ≡ r → others a (suc n) ≡ others (a + 1) n
-  step-root a n here = ap (λ b. cond (not b) (a ∷ others (a + 1) n) (others (a + 1) n)) (eq-eqb a r here)
+  -- there are as many as vertices times the depth
+  each-bound-long : (vs : List ℕ) → length (each-bound vs) ≡ length vs * depth
+  each-bound-long [] = sym (zero-mul depth)
+  each-bound-long (v ∷ vs) =
+      length-append (replicate depth (degree v)) (each-bound vs) ∙ omega (arith, length-replicate depth (degree v), each-bound-long vs, suc-mul (length vs) depth)
 
-  -- past the root all are left
-  past-root : (a n : ℕ) → r < a → others a n ≡ counting a n
-  past-root a zero past = refl
-  past-root a (suc n) past = step-other a n (omega arith) ∙ ap (λ xs. a ∷ xs) (past-root (a + 1) n (omega arith))
-
-  others-long : (a n : ℕ) → a ≤ r → r < a + n → suc (length (others a n)) ≡ n
-  others-long a zero low high = absurd (omega arith)
-  others-long a (suc n) low high = at (cases-eq a r) (others-long (a + 1) n)
+  -- the one at i is the degree of the vertex that division finds
+  each-bound-at : (vs : List ℕ) (i : ℕ) → i < length vs * depth → getD (each-bound vs) i 0 ≡ degree (getD vs (i / depth) 0)
+  each-bound-at [] i within = absurd (omega (arith, zero-mul depth))
+  each-bound-at (v ∷ vs) i within = at (cases-lt i depth) (each-bound-at vs (i - depth))
     where
-      at : (a ≡ r) ⊎ (a ≡ r → ⊥) → (a + 1 ≤ r → r < a + 1 + n → suc (length (others (a + 1) n)) ≡ n) → suc (length (others a (suc n))) ≡ suc n
-      at (inl here) on = ap (λ xs. suc (length xs)) (step-root a n here ∙ past-root (a + 1) n (omega arith)) ∙ ap suc (length-counting (a + 1) n)
-      at (inr apart) on = ap (λ xs. suc (length xs)) (step-other a n apart) ∙ ap suc (on (omega arith) (omega arith))
+      some : 0 < depth
+      some = depth-some (suc (length vs)) depth i within
 
-  -- below the root each stands at its own number
-  below-root : (a n j : ℕ) → a + j < r → j < n → getD (others a n) j 0 ≡ a + j
-  below-root a zero j low within = absurd (omega arith)
-  below-root a (suc n) zero low within = ap (λ xs. getD xs zero 0) (step-other a n (omega arith)) ∙ omega arith
-  below-root a (suc n) (suc j) low within = ap (λ xs. getD xs (suc j) 0) (step-other a n (omega arith)) ∙ below-root (a + 1) n j (omega arith) (omega arith) ∙ omega arith
+      at : (i < depth) ⊎ (depth ≤ i) → (i - depth < length vs * depth → getD (each-bound vs) (i - depth) 0 ≡ degree (getD vs ((i - depth) / depth) 0)) → getD (each-bound (v ∷ vs)) i 0 ≡ degree (getD (v ∷ vs) (i / depth) 0)
+      at (inl low) on =
+          getD-append-left (replicate depth (degree v)) (each-bound vs) 0 i (omega (arith, length-replicate depth (degree v))) ∙ getD-replicate depth i (degree v) 0 low
+            ∙ ap (λ j. degree (getD (v ∷ vs) j 0)) (sym (div-eq-of-lt low))
+      at (inr high) on =
+          getD-append-right (replicate depth (degree v)) (each-bound vs) depth i 0 (length-replicate depth (degree v)) high ∙ on (omega (arith, suc-mul (length vs) depth))
+            ∙ ap (λ j. degree (getD (v ∷ vs) j 0)) (sym (div-eq-sub-div some high ∙ add-one ((i - depth) / depth)))
 
-  -- above it each stands one lower
-  above-root : (a n j : ℕ) → a ≤ r → r ≤ a + j → suc j < n → getD (others a n) j 0 ≡ a + j + 1
-  above-root a zero j low high within = absurd (omega arith)
-  above-root a (suc n) j low high within = at (cases-eq a r) j high within (above-root (a + 1) n)
-    where
-      at : (a ≡ r) ⊎ (a ≡ r → ⊥) → (i : ℕ) → r ≤ a + i → suc i < suc n → ((m : ℕ) → a + 1 ≤ r → r ≤ a + 1 + m → suc m < n → getD (others (a + 1) n) m 0 ≡ a + 1 + m + 1) → getD (others a (suc n)) i 0 ≡ a + i + 1
-      at (inl here) i far short on = ap (λ xs. getD xs i 0) (step-root a n here ∙ past-root (a + 1) n (omega arith)) ∙ getD-counting (a + 1) n i 0 (omega arith) ∙ omega arith
-      at (inr apart) zero far short on = absurd (omega arith)
-      at (inr apart) (suc i) far short on = ap (λ xs. getD xs (suc i) 0) (step-other a n apart) ∙ on i (omega arith) (omega arith) (omega arith) ∙ omega arith
+-- ports below their bounds, place by place
+within-from : (ports bs : List ℕ) → length ports ≡ length bs → ((i : ℕ) → i < length ports → getD ports i 0 < getD bs i 0) → Within-bounds ports bs
+within-from [] [] long below = tt
+within-from [] (b ∷ bs) long below = absurd (omega arith)
+within-from (x ∷ xs) [] long below = absurd (omega arith)
+within-from (x ∷ xs) (b ∷ bs) long below = (below 0 (omega arith), within-from xs bs (omega arith) (λ i short. below (suc i) (omega arith)))
 
-module _ (p : Layout) (sound : Sound p) where
-  pub drained-long : length (drained p) ≡ p .size - 1
-  drained-long = let e : suc (length (drained p)) ≡ p .size = others-long (p .root) 0 (p .size) (omega arith) (omega (arith, sound .root-below)) in omega arith
+-- another port below the bound of its place
+within-set : (ports bs : List ℕ) (i q : ℕ) → Within-bounds ports bs → q < getD bs i 0 → Within-bounds (set ports i q) bs
+within-set [] [] i q within below = tt
+within-set [] (b ∷ bs) i q never below = absurd never
+within-set (x ∷ xs) [] i q never below = absurd never
+within-set (x ∷ xs) (b ∷ bs) zero q (first, within) below = (below, within)
+within-set (x ∷ xs) (b ∷ bs) (suc i) q (first, within) below = (first, within-set xs bs i q within below)
 
-  -- every vertex but the root stands at its rank
-  pub drained-at : (v : ℕ) → (v ≡ p .root → ⊥) → v < p .size → getD (drained p) (rank (p .root) v) 0 ≡ v
-  drained-at v apart within = ⊎-elim
-    (λ low. ap (λ b. getD (drained p) (cond b v (v - 1)) 0) (lt-ltb v (p .root) low) ∙ below-root (p .root) 0 (p .size) v (omega arith) within ∙ omega arith)
-    (λ high. ap (λ b. getD (drained p) (cond b v (v - 1)) 0) (le-ltb v (p .root) high) ∙ above-root (p .root) 0 (p .size) (v - 1) (omega arith) (omega arith) (omega arith) ∙ omega arith)
-    (cases-lt v (p .root))
+-- other places are as they were
+nth-set-other : (xs : List ℕ) (i j q : ℕ) → (j ≡ i → ⊥) → nth (set xs i q) j ≡ nth xs j
+nth-set-other [] i j q apart = refl
+nth-set-other (x ∷ xs) zero zero q apart = absurd (apart refl)
+nth-set-other (x ∷ xs) zero (suc j) q apart = refl
+nth-set-other (x ∷ xs) (suc i) zero q apart = refl
+nth-set-other (x ∷ xs) (suc i) (suc j) q apart = nth-set-other xs i j q (λ same. apart (ap suc same))
 
-  pub rank-below : (v : ℕ) → (v ≡ p .root → ⊥) → v < p .size → rank (p .root) v < p .size - 1
-  rank-below v apart within = ⊎-elim
-    (λ low. subst (λ b. cond b v (v - 1) < p .size - 1) (sym (lt-ltb v (p .root) low)) (omega (arith, sound .root-below)))
-    (λ high. subst (λ b. cond b v (v - 1) < p .size - 1) (sym (le-ltb v (p .root) high)) (omega arith))
-    (cases-lt v (p .root))
+module _ (p : Layout) (sound : Sound p) (depth : ℕ) where
+  -- one bound for each cell
+  pub bounds-long : length (bounds p depth) ≡ cell-count p depth
+  bounds-long = each-bound-long (p .degree) depth (drained p) ∙ ap (λ m. m * depth) (drained-long p sound)
+
+  -- it is the degree of the vertex of the cell
+  pub bounds-at : (i : ℕ) → i < cell-count p depth → getD (bounds p depth) i 0 ≡ p .degree (vertex-at p depth i)
+  bounds-at i within = each-bound-at (p .degree) depth (drained p) i (subst (λ m. i < m * depth) (sym (drained-long p sound)) within)
+
+  -- a filling has one port for each cell
+  pub filling-long : (ports : List ℕ) → Filling p depth ports → length ports ≡ cell-count p depth
+  filling-long ports filling = length-each (λ port b. port < b) ports (bounds p depth) filling ∙ bounds-long
+
+  -- the two forms of a filling say the same
+  pub filling-fills : (ports : List ℕ) → Filling p depth ports → Fills p depth ports
+  filling-fills ports filling = (filling-long ports filling, λ i within.
+    let long : length ports ≡ cell-count p depth = filling-long ports filling in
+    subst (λ b. getD ports i 0 < b) (bounds-at i within) (each-getD (λ port b. port < b) ports (bounds p depth) i 0 0 filling (omega arith)))
+
+  pub fills-filling : (ports : List ℕ) → Fills p depth ports → Filling p depth ports
+  fills-filling ports (long, below) = within-from ports (bounds p depth) (long ∙ sym bounds-long) (λ i within.
+    let inside : i < cell-count p depth = omega arith in
+    subst (λ b. getD ports i 0 < b) (sym (bounds-at i inside)) (below i inside))
+
+  -- ---- the cells
+
+  -- there is no cell from the depth on
+  pub cell-past : (ports : List ℕ) (v k d : ℕ) → depth ≤ k → filed-cells (p .size) (p .root) depth ports v k d ≡ None
+  cell-past ports v k d past =
+      ap (λ b. then (cond b None (Some (cell-place p depth v k))) (nth ports)) (or-right (eqb v (p .root)) _ (or-right (leb (p .size) v) _ (le-leb depth k past)))
+
+  module _ (v k : ℕ) (apart : v ≡ p .root → ⊥) (in-plan : v < p .size) (shallow : k < depth) where
+    -- the place is among those of the cells
+    pub place-below : cell-place p depth v k < cell-count p depth
+    place-below = digits-lt (rank-below p sound v apart in-plan) shallow
+
+    -- the cell at the place is one of v
+    pub vertex-there : vertex-at p depth (cell-place p depth v k) ≡ v
+    vertex-there = ap (λ i. getD (drained p) i 0) (digits-div (rank (p .root) v) shallow) ∙ drained-at p sound v apart in-plan
+
+    -- there is a cell
+    pub place-there : place (p .size) (p .root) depth v k ≡ Some (cell-place p depth v k)
+    place-there =
+        let has : lacks-cell (p .size) (p .root) depth v k ≡ false = or-from (eqb v (p .root)) _ (ne-eqb v (p .root) apart) (or-from (leb (p .size) v) _ (lt-leb (p .size) v in-plan) (lt-leb depth k shallow)) in
+        ap (λ b. cond b None (Some (cell-place p depth v k))) has
+
+    -- its port is the one at its place
+    pub cell-nth : (ports : List ℕ) (d : ℕ) → filed-cells (p .size) (p .root) depth ports v k d ≡ nth ports (cell-place p depth v k)
+    cell-nth ports d = ap (λ o. then o (nth ports)) place-there
+
+    module _ (ports : List ℕ) (filling : Filling p depth ports) where
+      -- a filling reaches past the place
+      pub place-inside : cell-place p depth v k < length ports
+      place-inside = subst (λ n. cell-place p depth v k < n) (sym (filling-long ports filling)) place-below
+
+      -- the cell holds the port at its place
+      pub cell-port : (d : ℕ) → filed-cells (p .size) (p .root) depth ports v k d ≡ Some (getD ports (cell-place p depth v k) 0)
+      cell-port d = cell-nth ports d ∙ nth-getD ports (cell-place p depth v k) 0 place-inside
+
+      -- which is a port of v
+      pub port-below : getD ports (cell-place p depth v k) 0 < p .degree v
+      port-below = subst (λ u. getD ports (cell-place p depth v k) 0 < p .degree u) vertex-there (filling-fills ports filling .1 (cell-place p depth v k) place-below)
+
+      -- the cells of a filling are all there, and each holds a port of its vertex
+      pub cell-there : (d : ℕ) → (q : ℕ) × (filed-cells (p .size) (p .root) depth ports v k d ≡ Some q) × (q < p .degree v)
+      cell-there d = (getD ports (cell-place p depth v k) 0, cell-port d, port-below)
+
+  -- cells at one place are one cell
+  pub same-place : (v k : ℕ) → (v ≡ p .root → ⊥) → v < p .size → k < depth → (w j : ℕ) → (w ≡ p .root → ⊥) → w < p .size → j < depth → cell-place p depth w j ≡ cell-place p depth v k → (w ≡ v) × (j ≡ k)
+  same-place v k v-apart v-in k-shallow w j w-apart w-in j-shallow same =
+      (sym (vertex-there w j w-apart w-in j-shallow) ∙ ap (vertex-at p depth) same ∙ vertex-there v k v-apart v-in k-shallow,
+        sym (digits-mod (rank (p .root) w) j-shallow) ∙ ap (λ i. i % depth) same ∙ digits-mod (rank (p .root) v) k-shallow)
+
+  -- ---- another port in one cell
+
+  module _ (v k : ℕ) (apart : v ≡ p .root → ⊥) (in-plan : v < p .size) (shallow : k < depth) (ports : List ℕ) (filling : Filling p depth ports) (q : ℕ) (below : q < p .degree v) where
+    -- the list is a filling again
+    pub replaced-filling : Filling p depth (set ports (cell-place p depth v k) q)
+    replaced-filling =
+        let bound : getD (bounds p depth) (cell-place p depth v k) 0 ≡ p .degree v = bounds-at (cell-place p depth v k) (place-below v k apart in-plan shallow) ∙ ap (p .degree) (vertex-there v k apart in-plan shallow) in
+        within-set ports (bounds p depth) (cell-place p depth v k) q filling (subst (λ b. q < b) (sym bound) below)
+
+    -- the cell holds the new port
+    pub replaced-here : (d : ℕ) → filed-cells (p .size) (p .root) depth (set ports (cell-place p depth v k) q) v k d ≡ Some q
+    replaced-here d =
+        cell-port v k apart in-plan shallow (set ports (cell-place p depth v k) q) replaced-filling d
+          ∙ ap Some (getD-set-same ports (cell-place p depth v k) q 0 (place-inside v k apart in-plan shallow ports filling))
+
+    -- the other cells are as they were
+    pub replaced-other : (w j d : ℕ) → ((w ≡ v) × (j ≡ k) → ⊥) → filed-cells (p .size) (p .root) depth (set ports (cell-place p depth v k) q) w j d ≡ filed-cells (p .size) (p .root) depth ports w j d
+    replaced-other w j d differs = ⊎-elim
+      (λ lacks. lacking (set ports (cell-place p depth v k) q) lacks ∙ sym (lacking ports lacks))
+      (λ has.
+        let (no-root, rest) = or-parts (eqb w (p .root)) _ has in
+        let (vertex, index) = or-parts (leb (p .size) w) _ rest in
+        let w-apart : w ≡ p .root → ⊥ = eqb-false w (p .root) no-root in
+        let w-in : w < p .size = leb-false (p .size) w vertex in
+        let j-shallow : j < depth = leb-false depth j index in
+        cell-nth w j w-apart w-in j-shallow (set ports (cell-place p depth v k) q) d
+          ∙ nth-set-other ports (cell-place p depth v k) (cell-place p depth w j) q (λ same. differs (same-place v k apart in-plan shallow w j w-apart w-in j-shallow same))
+          ∙ sym (cell-nth w j w-apart w-in j-shallow ports d))
+      (cases-bool (lacks-cell (p .size) (p .root) depth w j))
+      where
+        lacking : (xs : List ℕ) → lacks-cell (p .size) (p .root) depth w j ≡ true → filed-cells (p .size) (p .root) depth xs w j d ≡ None
+        lacking xs lacks = ap (λ b. then (cond b None (Some (cell-place p depth w j))) (nth xs)) lacks

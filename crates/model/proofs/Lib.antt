@@ -1,6 +1,7 @@
 pub mod Agreeing
 pub mod Counting
 pub mod Cycles
+pub mod Drained
 pub mod Drawing
 pub mod Ends
 pub mod Entries

@@ -7,7 +7,7 @@ use Prim.Native.Nat.{ℕ, zero, suc, _+_, _<_, _≤_}
 use native.Mathlib.Omega.{arith}
 use Rattle.std.specs.Iters.{counting}
 use Rattle.std.specs.shelf.Lists.{All, joined, kept-by}
-use Rattle.std.proofs.shelf.Elements.{all-append, all-kept-by, all-weaker}
+use Rattle.std.proofs.shelf.Elements.{all-append, all-kept-by}
 use Rattle.std.proofs.shelf.Tests.{cases-eq}
 use Rattle.model.specs.Distinct.{In, Fresh, Distinct}
 
