@@ -13,6 +13,7 @@ pub mod Outcomes
 pub mod Pigeons
 pub mod Popping
 pub mod Reaching
+pub mod Reseating
 pub mod Sights
 pub mod Sounds
 pub mod Sums
