@@ -10,6 +10,7 @@ use lib.ListN.{length, getD, set, length-set}
 use lib.Seq.{getD-set-same, getD-set-other}
 use Rattle.std.specs.Iters.{counting}
 use Rattle.std.specs.shelf.Lists.{All}
+use Rattle.std.specs.shelf.Sorted.{Shuffled}
 use Rattle.std.proofs.shelf.Lists.{ext-getD}
 use Rattle.std.proofs.shelf.Tests.{cases-eq, cases-lt, eqb-true, eqb-false, eq-eqb, ne-eqb, not-false, not-true, not-from-false, both-ways, cases-bool}
 use Rattle.std.specs.declared.option.Option.{Option}
@@ -20,15 +21,17 @@ use Rattle.model.specs.Distinct.{In, Fresh, Distinct}
 use Rattle.model.specs.Filed.{filed-cells}
 use Rattle.model.specs.Fillings.{drained, cell-place, Filling}
 use Rattle.model.specs.Layouts.{Layout, Sound, is-root}
+use Rattle.model.specs.Outcomes.{end-of}
 use Rattle.model.specs.Picks.{then}
 use Rattle.model.specs.Reseats.{cells-of, seats, reseated, Shows}
 use Rattle.model.specs.Trees.{follow, Reaches, Is-tree}
 use Rattle.model.specs.Ways.{Leads}
 use Rattle.model.proofs.Agreeing.{pops-agree, tree-no-cycle}
 use Rattle.model.proofs.Fillings.{place-inside, cell-port, cell-past, same-place, replaced-filling, replaced-here, replaced-other}
+use Rattle.model.proofs.Outcomes.{to-end}
 use Rattle.model.proofs.Members.{in-kept, kept-in, in-counting, counting-in, distinct-kept, distinct-counting}
-use Rattle.model.proofs.Sights.{then-some, visible-some}
-use Rattle.model.proofs.Ways.{none-some, same-some}
+use Rattle.model.proofs.Sights.{visible-some, visible-cell, sight-within}
+use Rattle.model.proofs.Ways.{none-some, same-some, no-lead}
 
 -- a member that is fresh is none
 fresh-in : {X : Type 0} (x : X) (xs : List X) → Fresh x xs → In x xs → ⊥
@@ -101,3 +104,101 @@ module _ (p : Layout) (sound : Sound p) (depth : ℕ) (h : Heights) (u : List �
   seats-off : (vs F : List ℕ) (i : ℕ) → ((v : ℕ) → In v vs → at v ≡ i → ⊥) → getD (seats p depth h u vs F) i 0 ≡ getD F i 0
   seats-off [] F i off = refl
   seats-off (v ∷ vs) F i off = seats-off vs (set F (at v) (getD u v 0)) i (λ w there. off w (inr there)) ∙ getD-set-other F (at v) i (getD u v 0) 0 (λ e. off v (inl refl) (sym e))
+
+-- seats that get back what F has there: F comes back
+module _ (p : Layout) (depth : ℕ) (h : Heights) (t F : List ℕ) where
+  restored : (vs G : List ℕ) → ((v : ℕ) → In v vs → (getD t v 0 ≡ getD F (cell-place p depth v (h v)) 0) × (cell-place p depth v (h v) < length G))
+    → ((i : ℕ) → ((v : ℕ) → In v vs → cell-place p depth v (h v) ≡ i → ⊥) → getD G i 0 ≡ getD F i 0) → (i : ℕ) → getD (seats p depth h t vs G) i 0 ≡ getD F i 0
+  restored [] G old off i = off i (λ v never. absurd never)
+  restored (v ∷ vs) G old off i =
+      let here = cell-place p depth v (h v) in
+      let (same, inside) = old v (inl refl) in
+      restored vs (set G here (getD t v 0))
+      (λ w there. let (old-w, in-w) = old w (inr there) in (old-w, subst (λ n. cell-place p depth w (h w) < n) (sym (length-set G here (getD t v 0))) in-w))
+      (λ j apart. ⊎-elim
+        (λ e. subst (λ x. getD (set G here (getD t v 0)) x 0 ≡ getD F x 0) (sym e) (getD-set-same G here (getD t v 0) 0 inside ∙ same))
+        (λ other. getD-set-other G here j (getD t v 0) 0 other ∙ off j (elsewhere j apart other))
+        (cases-eq j here))
+      i
+    where
+      elsewhere : (j : ℕ) → ((w : ℕ) → In w vs → cell-place p depth w (h w) ≡ j → ⊥) → (j ≡ cell-place p depth v (h v) → ⊥) → (w : ℕ) → In w (v ∷ vs) → cell-place p depth w (h w) ≡ j → ⊥
+      elsewhere j apart other w (inl same) e = other (sym e ∙ ap (λ x. cell-place p depth x (h x)) same)
+      elsewhere j apart other w (inr there) e = apart w there e
+
+-- ---- an ended draw over a filling, and another tree
+
+module _ (p : Layout) (sound : Sound p) (depth : ℕ) (deep : depth ≤ 4096) (F : List ℕ) (filling : Filling p depth F) (h : Heights) (t u : List ℕ)
+  (shows : Shows p (cells-of p depth F) h t) (tree : Is-tree p u) where
+  abbrev old : Cells
+  old = cells-of p depth F
+
+  abbrev pub reseated-list : List ℕ
+  reseated-list = reseated p depth h u F
+
+  abbrev new : Cells
+  new = cells-of p depth reseated-list
+
+  -- a tree's port at a vertex other than the root is one of its ports
+  tree-port : (v : ℕ) → v < p .size → (v ≡ p .root → ⊥) → getD u v 0 < p .degree v
+  tree-port v low apart = ⊎-elim (λ lt. lt) (λ ge. absurd (stuck ge (tree .all-reach v low))) (cases-lt (getD u v 0) (p .degree v))
+    where
+      nowhere : p .degree v ≤ getD u v 0 → follow p u v ≡ None
+      nowhere ge = ap (λ b. cond b None (p .target v (getD u v 0))) (ne-eqb v (p .root) apart) ∙ sound .target-none v (getD u v 0) ge
+      stuck : p .degree v ≤ getD u v 0 → Reaches p u v → ⊥
+      stuck ge reaches = no-lead (follow p u) v (p .root) apart (nowhere ge) reaches
+
+  -- a visible cell lies above the depth
+  seen-shallow : (v : ℕ) → v < p .size → is-root p v ≡ false → h v < depth
+  seen-shallow v low other = ⊎-elim (λ lt. lt) (λ ge. absurd (none-some _ (getD t v 0) (cell-past p sound depth F v (h v) (p .degree v) ge) (visible-some p old v (h v) (getD t v 0) (shows v low other) .cell))) (cases-lt (h v) depth)
+
+  seat : (v : ℕ) → In v (drained p) → Seat p sound depth h u v
+  seat v there =
+      let (low, other) = in-drained p v there in
+      let apart : v ≡ p .root → ⊥ = eqb-false v (p .root) other in
+      record { in-plan = low; apart = apart; shallow = seen-shallow v low other; port = tree-port v low apart }
+
+  pub reseated-filling : Filling p depth reseated-list
+  reseated-filling = seats-filling p sound depth h u (drained p) seat F filling
+
+  -- below the heights nothing is changed
+  below-same : (v k : ℕ) → k < h v → sight p new v k ≡ sight p old v k
+  below-same v k low = ap (λ o. then (cond (is-root p v) None (then o (counts (p .degree v) k))) (p .target v)) (seats-other p sound depth h u (drained p) seat F filling v k (p .degree v) (λ there e. omega arith))
+
+  -- at the heights the new tree shows
+  pub reseated-shows : Shows p new h u
+  reseated-shows v low other =
+      let there = drained-in p v low other in
+      let s = seat v there in
+      visible-cell p new v (h v) (getD u v 0) other (let sh = s .shallow in omega arith) (s .port) (seats-here p sound depth h u (drained p) (drained-once p) seat F filling v (p .degree v) there)
+
+  at-heights : (v : ℕ) → seen (sight p new) h v ≡ follow p u v
+  at-heights v = by (is-root p v) refl (cases-lt v (p .size))
+    where
+      by : (b : Bool) → is-root p v ≡ b → (v < p .size) ⊎ (p .size ≤ v) → seen (sight p new) h v ≡ follow p u v
+      by true root place = ap (λ b. then (cond b None (then (new v (h v) (p .degree v)) (counts (p .degree v) (h v)))) (p .target v)) root ∙ sym (ap (λ b. cond b None (p .target v (getD u v 0))) root)
+      by false other (inl low) = ap (λ o. then o (p .target v)) (reseated-shows v low other) ∙ sym (ap (λ b. cond b None (p .target v (getD u v 0))) other)
+      by false other (inr past) = no-sight (sight p new v (h v)) refl ∙ sym (ap (λ b. cond b None (p .target v (getD u v 0))) other ∙ sound .target-none v (getD u v 0) (let none : p .degree v ≡ 0 = sound .degree-none v past in omega arith))
+        where
+          no-sight : (o : Option ℕ) → sight p new v (h v) ≡ o → sight p new v (h v) ≡ None
+          no-sight None is = is
+          no-sight (Some w) is = absurd (let low : v < p .size = sight-within p new sound .from v (h v) w is in omega arith)
+
+  pub reseated-final : Final (sight p new) h
+  reseated-final c cyc = tree-no-cycle p sound u tree c (subst (λ f. Cycle f c) (fun-ext at-heights) cyc)
+
+  -- what was popped over the old cells is popped over the new ones, and comes to their end
+  pub reseated-end : (cs : List Coloured) → Pops (sight p old) flat cs h → Shuffled (end-of p new .cycles) cs × ((v : ℕ) → h v ≡ end-of p new .heights v)
+  reseated-end cs pops = to-end p new sound cs h (pops-agree (sight p old) (sight p new) flat cs h below-same pops) reseated-final
+
+  -- reseating to the old tree gives back the old cells
+  pub reseated-back : reseated p depth h t reseated-list ≡ F
+  reseated-back =
+      let long : length reseated-list ≡ length F = seats-long p sound depth h u (drained p) F in
+      ext-getD 0 (reseated p depth h t reseated-list) F (seats-long p sound depth h t (drained p) reseated-list ∙ long)
+      (λ i inside. restored p depth h t F (drained p) reseated-list
+        (λ v there.
+          let s = seat v there in
+          let (low, other) = in-drained p v there in
+          (same-some (old v (h v) (p .degree v)) (getD t v 0) (getD F (cell-place p depth v (h v)) 0) (visible-some p old v (h v) (getD t v 0) (shows v low other) .cell) (cell-port p sound depth v (h v) (s .apart) (s .in-plan) (s .shallow) F filling (p .degree v)),
+          subst (λ n. cell-place p depth v (h v) < n) (sym long) (place-inside p sound depth v (h v) (s .apart) (s .in-plan) (s .shallow) F filling)))
+        (λ j off. seats-off p sound depth h u (drained p) F j off) i)

@@ -7,7 +7,7 @@ use native.Mathlib.Omega.{arith}
 use lib.Dec.{ltb}
 use Rattle.std.specs.declared.option.Option.{Option}
 use Rattle.std.specs.declared.option.Option.the-variants.{Some, None}
-use Rattle.std.proofs.shelf.Tests.{ltb-true, and-parts, cases-lt}
+use Rattle.std.proofs.shelf.Tests.{ltb-true, lt-ltb, and-parts, and-from, cases-lt}
 use Rattle.model.specs.Arrows.{Cells, counts, visible, sight}
 use Rattle.model.specs.Layouts.{Layout, Sound, is-root}
 use Rattle.model.specs.Picks.{then}
@@ -32,6 +32,7 @@ pub record Seen-port (p : Layout) (a : Cells) (v k q : ℕ) : Type 0 where
   pub not-root : is-root p v ≡ false
   pub low : k < 4096
   pub small : q < p .degree v
+  pub cell : a v k (p .degree v) ≡ Some q
 
 pub visible-some : (p : Layout) (a : Cells) (v k q : ℕ) → visible p a v k ≡ Some q → Seen-port p a v k q
 visible-some p a v k q is = by (is-root p v) refl is
@@ -41,7 +42,14 @@ visible-some p a v k q is = by (is-root p v) refl is
     by false other some =
         let (port, cell, counted) = then-some (a v k (p .degree v)) (counts (p .degree v) k) q some in
         let (low, small, same) = counts-some (p .degree v) k port q counted in
-        record { not-root = other; low = low; small = subst (λ x. x < p .degree v) same small }
+        record { not-root = other; low = low; small = subst (λ x. x < p .degree v) same small; cell = cell ∙ ap Some same }
+
+-- a cell with a port below the degree, at a height below 4,096, is visible at a vertex other than the root
+pub visible-cell : (p : Layout) (a : Cells) (v k q : ℕ) → is-root p v ≡ false → k < 4096 → q < p .degree v → a v k (p .degree v) ≡ Some q → visible p a v k ≡ Some q
+visible-cell p a v k q other low small cell =
+    ap (λ b. cond b None (then (a v k (p .degree v)) (counts (p .degree v) k))) other
+    ∙ ap (λ o. then o (counts (p .degree v) k)) cell
+    ∙ ap (λ b. cond b (Some q) None) (and-from _ _ (lt-ltb k 4096 low) (lt-ltb q (p .degree v) small))
 
 vertex-below : (p : Layout) → Sound p → (v q : ℕ) → q < p .degree v → v < p .size
 vertex-below p sound v q small = ⊎-elim (λ lt. lt) (λ ge. absurd (let none : p .degree v ≡ 0 = sound .degree-none v ge in omega arith)) (cases-lt v (p .size))
