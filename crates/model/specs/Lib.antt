@@ -10,6 +10,7 @@ pub mod Faults
 pub mod Filed
 pub mod Fillings
 pub mod Layouts
+pub mod OneEnd
 pub mod Orders
 pub mod Outcomes
 pub mod Picks
