@@ -12,7 +12,7 @@ use Rattle.std.specs.Options.{Cases}
 use Rattle.std.specs.Results.{isOk}
 use Rattle.std.specs.shelf.Lists.{All}
 use Rattle.std.proofs.shelf.Lists.{set-at, drop-more, length-map, map-push}
-use Rattle.std.proofs.shelf.Tests.{false≢true, cases-bool, both-ways, or-cases, or-left, or-right, ltb-true, not-false, cases-lt}
+use Rattle.std.proofs.shelf.Tests.{false≢true, cases-bool, both-ways, or-cases, or-left, or-right, ltb-true, eq-eqb, and-from, not-false, cases-lt}
 use Rattle.std.specs.declared.option.Option.{Option}
 use Rattle.std.specs.declared.option.Option.the-variants.{Some, None}
 use Rattle.std.specs.declared.result.Result.{Result}
@@ -155,6 +155,9 @@ module _ (p : Layout) (a : Cells) (sound : Sound p) where
     pub popped : Pops (sight p a) flat cs (height-of (h .draw .entries))
     pub counted : h .draw .pops ≡ length cs
     pub listed : h .list ≡ map record-of cs ++ drop (length cs) l
+
+  pub is-of-plan : (l : List Pop) (h : Held) (cs : List Coloured) → Good l h cs → is-of p (h .draw) ≡ true
+  is-of-plan l h cs good = and-from _ _ (eq-eqb _ _ (good .sane .sized)) (eq-eqb _ _ (good .rooted))
 
   -- the same after a call
   abbrev pub Keeps : {A : Type 0} → List Pop → List Coloured → After A → Type 0

@@ -33,7 +33,7 @@ use Rattle.model.specs.declared.draw.Tried.{Tried}
 use Rattle.model.specs.declared.fault.DrawFault.{DrawFault}
 use Rattle.model.specs.declared.fault.DrawFault.the-variants as fault
 use Rattle.model.proofs.Cycles.{among-here}
-use Rattle.model.proofs.Drawing.{Good, shown-to, steps-good, round-cycle, pop-pops}
+use Rattle.model.proofs.Drawing.{Good, is-of-plan, shown-to, steps-good, round-cycle, pop-pops}
 use Rattle.model.proofs.Outcomes.{pops-few}
 use Rattle.model.proofs.Trails.{Told, Round, Leaves, Closed-under, among-left}
 
@@ -172,11 +172,8 @@ module _ (p : Layout) (a : Cells) (sound : Sound p) (l : List Pop) (room : lengt
               let fits : ltb (h .draw .pops) (length (h .list)) ≡ true = lt-ltb _ _ (let e : h .draw .pops ≡ length cs = good .counted in omega arith) in
               subst (λ b. Gets-on h cs (cond b (pops-cycle h c) (refused h fault.ListFull))) (sym fits) (pops-on h cs good c whole)
 
-  is-of-plan : (h : Held) (cs : List Coloured) → Good p a sound l h cs → is-of p (h .draw) ≡ true
-  is-of-plan h cs good = and-from _ _ (eq-eqb _ _ (good .sane .sized)) (eq-eqb _ _ (good .rooted))
-
   tries-on : (h : Held) (cs : List Coloured) → Good p a sound l h cs → (v : ℕ) → v < p .size → is-settled (h .draw .entries) v ≡ false → Gets-on h cs (tries p a v h)
-  tries-on h cs good v low open-v = by (not (is-of p (h .draw))) (ap not (is-of-plan h cs good)) (not (ltb v (p .size))) (ap not (lt-ltb v (p .size) low)) (is-settled (h .draw .entries) v) open-v
+  tries-on h cs good v low open-v = by (not (is-of p (h .draw))) (ap not (is-of-plan p a sound l h cs good)) (not (ltb v (p .size))) (ap not (lt-ltb v (p .size) low)) (is-settled (h .draw .entries) v) open-v
     where
       t : Trail
       t = trail p a (h .draw .entries) v
@@ -187,7 +184,7 @@ module _ (p : Layout) (a : Cells) (sound : Sound p) (l : List Pop) (room : lengt
       by false b2 false c2 false s2 = trail-gets-on h cs good v low open-v t (trail-holds (shown p a (h .draw .entries)) (is-settled (h .draw .entries)) (p .size) v open-v) (shown-to p a sound (h .draw .entries) v low)
 
   steps-on : (h : Held) (cs : List Coloured) → Good p a sound l h cs → (s : Strategy) → Lawful s → none-open (h .draw .entries) ≡ false → Gets-on h cs (steps p a s h)
-  steps-on h cs good s lawful some = subst (λ b. Gets-on {A = Tried} h cs (cond b (if-some (s [] (open-marks (h .draw .entries))) (refused h fault.NothingOpen) (λ v. telling v (tries p a v h))) (refused h fault.OtherPlan))) (sym (is-of-plan h cs good)) (by (s [] (open-marks es)) (lawful [] (open-marks es)))
+  steps-on h cs good s lawful some = subst (λ b. Gets-on {A = Tried} h cs (cond b (if-some (s [] (open-marks (h .draw .entries))) (refused h fault.NothingOpen) (λ v. telling v (tries p a v h))) (refused h fault.OtherPlan))) (sym (is-of-plan p a sound l h cs good)) (by (s [] (open-marks es)) (lawful [] (open-marks es)))
     where
       es : List Entry
       es = h .draw .entries
@@ -242,4 +239,4 @@ module _ (p : Layout) (a : Cells) (sound : Sound p) (l : List Pop) (room : lengt
   runs-finish h cs good s budget lawful enough =
       let most = open-most (h .draw .entries) in
       let e : length (h .draw .entries) ≡ p .size = good .sane .sized in
-      subst (λ b. Finished (cond b (runs-on p a s budget 0 h) (refused h fault.OtherPlan))) (sym (is-of-plan h cs good)) (runs-on-finishes budget 0 h cs good s lawful (omega arith))
+      subst (λ b. Finished (cond b (runs-on p a s budget 0 h) (refused h fault.OtherPlan))) (sym (is-of-plan p a sound l h cs good)) (runs-on-finishes budget 0 h cs good s lawful (omega arith))

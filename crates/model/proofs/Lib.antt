@@ -9,6 +9,7 @@ pub mod Fillings
 pub mod Finishing
 pub mod Lowest
 pub mod Members
+pub mod OneEnd
 pub mod Outcomes
 pub mod Pigeons
 pub mod Popping

@@ -36,7 +36,7 @@ module _ (p : Layout) (a : Cells) (sound : Sound p) where
   pub end-law : Lowest-pops (sight p a) flat (end-of p a .cycles) (end-of p a .heights) × Final (sight p a) (end-of p a .heights)
   end-law = popped-out-law (sight p a) (p .size) 4096 (sight-within p a sound) (suc (p .size * 4096)) flat (let e : room 4096 flat (p .size) ≡ p .size * 4096 = room-flat 4096 (p .size) in omega arith)
 
-  end-pops : Pops (sight p a) flat (end-of p a .cycles) (end-of p a .heights)
+  pub end-pops : Pops (sight p a) flat (end-of p a .cycles) (end-of p a .heights)
   end-pops = lowest-pops (sight p a) flat (end-of p a .cycles) (end-of p a .heights) (end-law .0)
 
   -- it is the only such sequence

@@ -41,10 +41,10 @@ fresh-in x (y ∷ ys) (apart, fresh) (inr there) = fresh-in x ys fresh there
 
 module _ (p : Layout) where
   -- the vertices but the root are just those
-  drained-in : (v : ℕ) → v < p .size → is-root p v ≡ false → In v (drained p)
+  pub drained-in : (v : ℕ) → v < p .size → is-root p v ≡ false → In v (drained p)
   drained-in v low other = in-kept (λ x. not (is-root p x)) (counting 0 (p .size)) v (in-counting 0 (p .size) v (omega arith) (omega arith)) (not-from-false _ other)
 
-  in-drained : (v : ℕ) → In v (drained p) → (v < p .size) × (is-root p v ≡ false)
+  pub in-drained : (v : ℕ) → In v (drained p) → (v < p .size) × (is-root p v ≡ false)
   in-drained v there =
       let (listed, passed) = kept-in (λ x. not (is-root p x)) (counting 0 (p .size)) v there in
       let (low, high) = counting-in 0 (p .size) v listed in
