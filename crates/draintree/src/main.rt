@@ -1,53 +1,27 @@
 // Reads a sheet from standard input and does its commands, or does the one command on its command line.
-use sheet::line::Outcome;
-use sheet::line::OutcomePartialEq;
-use sheet::line::do_line;
-use sheet::line::last_words;
-use sheet::session::Session;
+use sheet::whole::Sheet;
 use std::alloc::Global;
 use std::env;
 use std::error::AnyError;
 use std::io::BufRead;
 use std::io::BufReader;
 
-// Does one line, writes what it is answered with, and says how it went.
-fn answer(
-    rt: &LibcRuntime,
-    heap: Global,
-    session: &mut Session,
-    number: usize,
-    line: &[u8],
-) -> Result<Outcome, AnyError> {
-    let reply = do_line(session, heap, number, line)?;
-    rt.print(reply.text.as_str())?;
-    Ok(reply.outcome)
-}
-
-// Writes what is still due when there are no more lines.
-fn end(rt: &LibcRuntime, heap: Global, session: &mut Session) -> Result<(), AnyError> {
-    rt.print(last_words(session, heap)?.as_str())?;
-    Ok(())
-}
-
-// Does the lines of standard input as they come. A refusal is an answer like any other; only bad lines are told at the end.
+// Does the lines of standard input as they come, and says whether none was bad.
 fn do_sheet(rt: &LibcRuntime, heap: Global) -> Result<bool, AnyError> {
-    let mut session = Session::new();
-    let mut worst = Outcome::Fine;
-    let mut number: usize = 0;
+    let mut sheet = Sheet::new();
     for line in BufReader::new(rt.stdin()).split(heap, b'\n') {
-        number = number.saturating_add(1);
-        worst = worst.worse(answer(rt, heap, &mut session, number, line?.as_slice())?);
+        rt.print(sheet.line(heap, line?.as_slice())?.as_str())?;
     }
-    end(rt, heap, &mut session)?;
-    Ok(worst != Outcome::Bad)
+    rt.print(sheet.end(heap)?.as_str())?;
+    Ok(sheet.went_well())
 }
 
-// Does a single command. Here a refusal counts as a failure.
+// Does a single command, and says whether it was done.
 fn do_command(rt: &LibcRuntime, heap: Global, line: &[u8]) -> Result<bool, AnyError> {
-    let mut session = Session::new();
-    let outcome = answer(rt, heap, &mut session, 1, line)?;
-    end(rt, heap, &mut session)?;
-    Ok(outcome == Outcome::Fine)
+    let mut sheet = Sheet::new();
+    rt.print(sheet.line(heap, line)?.as_str())?;
+    rt.print(sheet.end(heap)?.as_str())?;
+    Ok(sheet.was_done())
 }
 
 // The words of the command line as one line.

@@ -50,18 +50,23 @@ module _ {X : Type 0} where
   -- so what passes P is at most as much as what passes Q
   pub count-at-most : (xs : List X) (P Q : X → Bool) (f g : X → X) → Distinct xs → There-and-back xs P Q f g → countBy P xs ≤ countBy Q xs
   count-at-most xs P Q f g d there =
-      omega (arith, length-kept-by P xs, length-kept-by Q xs, length-map (kept-by P xs) f,
-        members-few (map f (kept-by P xs)) (kept-by Q xs) (distinct-map f g (kept-by P xs) undone (distinct-kept P xs d)) landed)
+      omega (
+        arith,
+        length-kept-by P xs,
+        length-kept-by Q xs,
+        length-map (kept-by P xs) f,
+        members-few (map f (kept-by P xs)) (kept-by Q xs) (distinct-map f g (kept-by P xs) undone (distinct-kept P xs d)) landed,
+      )
     where
       undone : All (λ x. g (f x) ≡ x) (kept-by P xs)
       undone = all-from-in (λ x. g (f x) ≡ x) (kept-by P xs) (λ x at. let (member, passed) = kept-in P xs x at in there x member passed .2)
 
       landed : All (λ y. In y (kept-by Q xs)) (map f (kept-by P xs))
       landed = all-from-in (λ y. In y (kept-by Q xs)) (map f (kept-by P xs)) (λ y at.
-        let (x, in-kept-x, is) = map-in f (kept-by P xs) y at in
-        let (member, passed) = kept-in P xs x in-kept-x in
-        let (goes, passes, back) = there x member passed in
-        subst (λ z. In z (kept-by Q xs)) (sym is) (in-kept Q xs (f x) goes passes))
+          let (x, in-kept-x, is) = map-in f (kept-by P xs) y at in
+          let (member, passed) = kept-in P xs x in-kept-x in
+          let (goes, passes, back) = there x member passed in
+          subst (λ z. In z (kept-by Q xs)) (sym is) (in-kept Q xs (f x) goes passes))
 
   -- maps there and back, each undoing the other, give equal counts
   pub count-same : (xs : List X) (P Q : X → Bool) (f g : X → X) → Distinct xs → There-and-back xs P Q f g → There-and-back xs Q P g f → countBy P xs ≡ countBy Q xs

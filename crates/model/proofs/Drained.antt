@@ -64,13 +64,13 @@ module _ (p : Layout) (sound : Sound p) where
   -- every vertex but the root stands at its rank
   pub drained-at : (v : ℕ) → (v ≡ p .root → ⊥) → v < p .size → getD (drained p) (rank (p .root) v) 0 ≡ v
   drained-at v apart within = ⊎-elim
-    (λ low. ap (λ b. getD (drained p) (cond b v (v - 1)) 0) (lt-ltb v (p .root) low) ∙ below-root (p .root) 0 (p .size) v (omega arith) within ∙ omega arith)
-    (λ high. ap (λ b. getD (drained p) (cond b v (v - 1)) 0) (le-ltb v (p .root) high) ∙ above-root (p .root) 0 (p .size) (v - 1) (omega arith) (omega arith) (omega arith) ∙ omega arith)
-    (cases-lt v (p .root))
+      (λ low. ap (λ b. getD (drained p) (cond b v (v - 1)) 0) (lt-ltb v (p .root) low) ∙ below-root (p .root) 0 (p .size) v (omega arith) within ∙ omega arith)
+      (λ high. ap (λ b. getD (drained p) (cond b v (v - 1)) 0) (le-ltb v (p .root) high) ∙ above-root (p .root) 0 (p .size) (v - 1) (omega arith) (omega arith) (omega arith) ∙ omega arith)
+      (cases-lt v (p .root))
 
   -- the rank is below their number
   pub rank-below : (v : ℕ) → (v ≡ p .root → ⊥) → v < p .size → rank (p .root) v < p .size - 1
   rank-below v apart within = ⊎-elim
-    (λ low. subst (λ b. cond b v (v - 1) < p .size - 1) (sym (lt-ltb v (p .root) low)) (omega (arith, sound .root-below)))
-    (λ high. subst (λ b. cond b v (v - 1) < p .size - 1) (sym (le-ltb v (p .root) high)) (omega arith))
-    (cases-lt v (p .root))
+      (λ low. subst (λ b. cond b v (v - 1) < p .size - 1) (sym (lt-ltb v (p .root) low)) (omega (arith, sound .root-below)))
+      (λ high. subst (λ b. cond b v (v - 1) < p .size - 1) (sym (le-ltb v (p .root) high)) (omega arith))
+      (cases-lt v (p .root))

@@ -66,6 +66,7 @@ carried f P on-arrow (v ∷ vs) x (way, low) on px =
     along : (xs : List ℕ) (u w : ℕ) → Way f u xs w → P u → P w
     along [] u w arrow pu = on-arrow u w pu arrow
     along (z ∷ zs) u w (arrow, rest) pu = along zs z w rest (on-arrow u z pu arrow)
+
     all-along : (u : ℕ) (us : List ℕ) (w : ℕ) → Way f u us w → P u → (y : ℕ) → among y (u ∷ us) ≡ true → P y
     all-along u [] w arrow pu y there = ⊎-elim (λ e. subst P (sym e) pu) (λ never. absurd (false≢true never)) (among-cases y u [] there)
     all-along u (z ∷ zs) w (arrow, rest) pu y there = ⊎-elim (λ e. subst P (sym e) pu) (all-along z zs w rest (on-arrow u z pu arrow) y) (among-cases y u (z ∷ zs) there)
@@ -98,17 +99,17 @@ module _ (p : Layout) (a : Cells) (sound : Sound p) where
     pop-sane = record {
       sized = length-changed higher c es ∙ sane .sized;
       closed = λ x y shut-x arrow.
-        let old : is-settled es x ≡ true = sym (raised-marks c es x) ∙ shut-x in
-        raised-marks c es y ∙ sane .closed x y old (sym (same-shown x old) ∙ arrow);
+          let old : is-settled es x ≡ true = sym (raised-marks c es x) ∙ shut-x in
+          raised-marks c es y ∙ sane .closed x y old (sym (same-shown x old) ∙ arrow);
       no-cycle = λ d x cyc-d on shut-x.
-        let old : is-settled es x ≡ true = sym (raised-marks c es x) ∙ shut-x in
-        let all-shut = carried (shown p a (changed higher c es)) (λ z. is-settled es z ≡ true) (λ u w shut-u arrow. sane .closed u w shut-u (sym (same-shown u shut-u) ∙ arrow)) d x cyc-d on old in
-        sane .no-cycle d x (cycle-same (shown p a (changed higher c es)) (shown p a es) d (λ y there. sym (same-shown y (all-shut y there))) cyc-d) on old;
+          let old : is-settled es x ≡ true = sym (raised-marks c es x) ∙ shut-x in
+          let all-shut = carried (shown p a (changed higher c es)) (λ z. is-settled es z ≡ true) (λ u w shut-u arrow. sane .closed u w shut-u (sym (same-shown u shut-u) ∙ arrow)) d x cyc-d on old in
+          sane .no-cycle d x (cycle-same (shown p a (changed higher c es)) (shown p a es) d (λ y there. sym (same-shown y (all-shut y there))) cyc-d) on old;
     }
 
   -- ---- settling a trail that leaves
   module _ (es : List Entry) (sane : Sane es) (path : List ℕ) (within : All (λ v. v < length es) path)
-    (leaves : (x : ℕ) → among x path ≡ true → Leaves (shown p a es) (is-settled es) x) (under : Closed-under (shown p a es) (is-settled es) path) where
+      (leaves : (x : ℕ) → among x path ≡ true → Leaves (shown p a es) (is-settled es) x) (under : Closed-under (shown p a es) (is-settled es) path) where
     same-sight : shown p a (changed shut path es) ≡ shown p a es
     same-sight = ap (seen (sight p a)) (fun-ext (settled-heights path es))
 
@@ -125,17 +126,17 @@ module _ (p : Layout) (a : Cells) (sound : Sound p) where
     settle-sane = record {
       sized = length-changed shut path es ∙ sane .sized;
       closed = λ x y is arrow.
-        let old-arrow : shown p a es x ≡ Some y = sym (ap (λ f. f x) same-sight) ∙ arrow in
-        ⊎-elim
-        (λ on. ⊎-elim (on-now y) (before-now y) (under x y on old-arrow))
-        (λ old. before-now y (sane .closed x y old old-arrow))
-        (now-settled x is);
+          let old-arrow : shown p a es x ≡ Some y = sym (ap (λ f. f x) same-sight) ∙ arrow in
+          ⊎-elim
+          (λ on. ⊎-elim (on-now y) (before-now y) (under x y on old-arrow))
+          (λ old. before-now y (sane .closed x y old old-arrow))
+          (now-settled x is);
       no-cycle = λ c x cyc on is.
-        let old-cyc : Cycle (shown p a es) c = subst (λ f. Cycle f c) same-sight cyc in
-        ⊎-elim
-        (λ there. out c x old-cyc on (leaves x there))
-        (λ old. sane .no-cycle c x old-cyc on old)
-        (now-settled x is);
+          let old-cyc : Cycle (shown p a es) c = subst (λ f. Cycle f c) same-sight cyc in
+          ⊎-elim
+          (λ there. out c x old-cyc on (leaves x there))
+          (λ old. sane .no-cycle c x old-cyc on old)
+          (now-settled x is);
     }
       where
         out : (c : List ℕ) (x : ℕ) → Cycle (shown p a es) c → among x c ≡ true → Leaves (shown p a es) (is-settled es) x → ⊥
@@ -168,7 +169,7 @@ module _ (p : Layout) (a : Cells) (sound : Sound p) where
 
   -- one record more
   list-more : (cs : List Coloured) (k : Coloured) (l list : List Pop) (n : ℕ) → n ≡ length cs → list ≡ map record-of cs ++ drop (length cs) l → n < length list
-    → set list n (record-of k) ≡ map record-of (cs ++ k ∷ []) ++ drop (length (cs ++ k ∷ [])) l
+      → set list n (record-of k) ≡ map record-of (cs ++ k ∷ []) ++ drop (length (cs ++ k ∷ [])) l
   list-more cs k l list n is-n is few =
       let front : length (map record-of cs) ≡ n = length-map cs record-of ∙ sym is-n in
       let long : length list ≡ length (map record-of cs) + length (drop (length cs) l) = ap length is ∙ length-append (map record-of cs) (drop (length cs) l) in
@@ -183,13 +184,13 @@ module _ (p : Layout) (a : Cells) (sound : Sound p) where
 
   -- its heights come from popping one more
   pub pop-pops : (l : List Pop) (h : Held) (cs : List Coloured) → Good l h cs → (c : List ℕ) → Cycle (shown p a (h .draw .entries)) c
-    → Pops (sight p a) flat (cs ++ coloured (height-of (h .draw .entries)) c ∷ []) (height-of (changed higher c (h .draw .entries)))
+      → Pops (sight p a) flat (cs ++ coloured (height-of (h .draw .entries)) c ∷ []) (height-of (changed higher c (h .draw .entries)))
   pop-pops l h cs good c cyc =
       let es = h .draw .entries in
       pops-join (sight p a) cs (coloured (height-of es) c ∷ []) flat (height-of es) (height-of (changed higher c es)) (good .popped) (c, cyc, refl, λ v. sym (raised-heights c es (inside es (good .sane .sized) c cyc) v))
 
   pop-good : (l : List Pop) (h : Held) (cs : List Coloured) → Good l h cs → (c : List ℕ) → Cycle (shown p a (h .draw .entries)) c → ((x : ℕ) → among x c ≡ true → is-settled (h .draw .entries) x ≡ false)
-    → h .draw .pops < length (h .list) → Keeps l cs (pops-cycle h c)
+      → h .draw .pops < length (h .list) → Keeps l cs (pops-cycle h c)
   pop-good l h cs good c cyc opens room =
       let es = h .draw .entries in
       let k = coloured (height-of es) c in
@@ -202,7 +203,7 @@ module _ (p : Layout) (a : Cells) (sound : Sound p) where
       }
 
   settle-good : (l : List Pop) (h : Held) (cs : List Coloured) → Good l h cs → (path : List ℕ) → All (λ v. v < p .size) path
-    → ((x : ℕ) → among x path ≡ true → Leaves (shown p a (h .draw .entries)) (is-settled (h .draw .entries)) x) → Closed-under (shown p a (h .draw .entries)) (is-settled (h .draw .entries)) path → Keeps l cs (settles h path)
+      → ((x : ℕ) → among x path ≡ true → Leaves (shown p a (h .draw .entries)) (is-settled (h .draw .entries)) x) → Closed-under (shown p a (h .draw .entries)) (is-settled (h .draw .entries)) path → Keeps l cs (settles h path)
   settle-good l h cs good path low leaves under =
       let es = h .draw .entries in
       same-good l (settles h path .held) cs (record {
@@ -222,8 +223,9 @@ module _ (p : Layout) (a : Cells) (sound : Sound p) where
     where
       f : ℕ → Option ℕ
       f = shown p a (h .draw .entries)
+
       by : (o : Option (List ℕ)) → Cases o (((x : ℕ) → among x (t .path) ≡ true → Leaves f (is-settled (h .draw .entries)) x) × Closed-under f (is-settled (h .draw .entries)) (t .path)) (λ l2. Round f (t .path) l2)
-        → Keeps l cs (if-some o (settles h (t .path)) (λ l2. cond (ltb (h .draw .pops) (length (h .list))) (pops-cycle h (turned l2)) (refused h fault.ListFull)))
+          → Keeps l cs (if-some o (settles h (t .path)) (λ l2. cond (ltb (h .draw .pops) (length (h .list))) (pops-cycle h (turned l2)) (refused h fault.ListFull)))
       by None (leaves, under) = settle-good l h cs good (t .path) (tells .inside) leaves under
       by (Some l2) round = room (ltb (h .draw .pops) (length (h .list))) refl
         where
@@ -262,8 +264,10 @@ module _ (p : Layout) (a : Cells) (sound : Sound p) where
     where
       x : After (Result Tried DrawFault)
       x = steps p a s h
+
       rest : After (Result (ℕ × Stop) DrawFault)
       rest = runs-on p a (all-told s (x .told)) left (suc made) (x .held)
+
       by : (b o : Bool) → Keeps l (cs ++ x .popped) rest → Keeps l cs (cond b (stopped h made Ended) (cond o (preceded (x .popped) (x .told) rest) (stopped h made Full)))
       by true o later = same-good l h cs good
       by false true later = subst (Good l (rest .held)) (append-assoc cs (x .popped) (rest .popped)) later

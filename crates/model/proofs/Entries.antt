@@ -47,9 +47,9 @@ module _ (c : List ℕ) (es : List Entry) (inside : All (λ v. v < length es) c)
 
   pub raised-heights : (v : ℕ) → height-of (changed higher c es) v ≡ raise c (height-of es) v
   raised-heights v = ⊎-elim
-    (λ within. ap (λ e. e .height) (getD-changed higher c es v within) ∙ by (among v c))
-    (λ past. ap (λ e. e .height) (changed-past higher c es v past) ∙ sym (raise-off c (height-of es) v (outside v past)))
-    (cases-lt v (length es))
+      (λ within. ap (λ e. e .height) (getD-changed higher c es v within) ∙ by (among v c))
+      (λ past. ap (λ e. e .height) (changed-past higher c es v past) ∙ sym (raise-off c (height-of es) v (outside v past)))
+      (cases-lt v (length es))
     where
       by : (b : Bool) → cond b (higher (getD es v no-entry)) (getD es v no-entry) .height ≡ cond b (suc (height-of es v)) (height-of es v)
       by true = refl
@@ -57,9 +57,9 @@ module _ (c : List ℕ) (es : List Entry) (inside : All (λ v. v < length es) c)
 
   pub settled-marks : (v : ℕ) → is-settled (changed shut c es) v ≡ (among v c || is-settled es v)
   settled-marks v = ⊎-elim
-    (λ within. ap (λ e. e .settled) (getD-changed shut c es v within) ∙ by (among v c))
-    (λ past. ap (λ e. e .settled) (changed-past shut c es v past) ∙ ap (λ b. b || is-settled es v) (sym (outside v past)))
-    (cases-lt v (length es))
+      (λ within. ap (λ e. e .settled) (getD-changed shut c es v within) ∙ by (among v c))
+      (λ past. ap (λ e. e .settled) (changed-past shut c es v past) ∙ ap (λ b. b || is-settled es v) (sym (outside v past)))
+      (cases-lt v (length es))
     where
       by : (b : Bool) → cond b (shut (getD es v no-entry)) (getD es v no-entry) .settled ≡ (b || is-settled es v)
       by true = refl
@@ -68,9 +68,9 @@ module _ (c : List ℕ) (es : List Entry) (inside : All (λ v. v < length es) c)
 -- raising moves no mark, and settling no height
 pub raised-marks : (c : List ℕ) (es : List Entry) (v : ℕ) → is-settled (changed higher c es) v ≡ is-settled es v
 raised-marks c es v = ⊎-elim
-  (λ within. ap (λ e. e .settled) (getD-changed higher c es v within) ∙ by (among v c))
-  (λ past. ap (λ e. e .settled) (changed-past higher c es v past))
-  (cases-lt v (length es))
+    (λ within. ap (λ e. e .settled) (getD-changed higher c es v within) ∙ by (among v c))
+    (λ past. ap (λ e. e .settled) (changed-past higher c es v past))
+    (cases-lt v (length es))
   where
     by : (b : Bool) → cond b (higher (getD es v no-entry)) (getD es v no-entry) .settled ≡ is-settled es v
     by true = refl
@@ -78,9 +78,9 @@ raised-marks c es v = ⊎-elim
 
 pub settled-heights : (c : List ℕ) (es : List Entry) (v : ℕ) → height-of (changed shut c es) v ≡ height-of es v
 settled-heights c es v = ⊎-elim
-  (λ within. ap (λ e. e .height) (getD-changed shut c es v within) ∙ by (among v c))
-  (λ past. ap (λ e. e .height) (changed-past shut c es v past))
-  (cases-lt v (length es))
+    (λ within. ap (λ e. e .height) (getD-changed shut c es v within) ∙ by (among v c))
+    (λ past. ap (λ e. e .height) (changed-past shut c es v past))
+    (cases-lt v (length es))
   where
     by : (b : Bool) → cond b (shut (getD es v no-entry)) (getD es v no-entry) .height ≡ height-of es v
     by true = refl
@@ -97,9 +97,9 @@ module _ (p : Layout) where
 
   pub opened-heights : (v : ℕ) → height-of (opened p .entries) v ≡ flat v
   opened-heights v = ⊎-elim
-    (λ within. ap (λ e. e .height) (getD-map-counting fresh 0 (p .size) v v no-entry within (omega arith)))
-    (λ past. ap (λ e. e .height) (getD-past (opened p .entries) v no-entry (let e : length (opened p .entries) ≡ p .size = opened-long in omega arith)))
-    (cases-lt v (p .size))
+      (λ within. ap (λ e. e .height) (getD-map-counting fresh 0 (p .size) v v no-entry within (omega arith)))
+      (λ past. ap (λ e. e .height) (getD-past (opened p .entries) v no-entry (let e : length (opened p .entries) ≡ p .size = opened-long in omega arith)))
+      (cases-lt v (p .size))
 
   pub opened-marks : (v : ℕ) → v < p .size → is-settled (opened p .entries) v ≡ is-root p v
   opened-marks v within = ap (λ e. e .settled) (getD-map-counting fresh 0 (p .size) v v no-entry within (omega arith))

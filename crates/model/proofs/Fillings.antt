@@ -68,8 +68,8 @@ distinct-before : (rest : List (List ℕ)) → Distinct rest → (ports : List �
 distinct-before rest d [] dp = tt
 distinct-before rest d (x ∷ xs) (fresh, dp) =
     distinct-append (before rest x) (joined (before rest) xs) (distinct-map (λ tail. x ∷ tail) behind rest (all-from-in (λ tail. tail ≡ tail) rest (λ tail at. refl)) d) (distinct-before rest d xs dp)
-      (all-from-in (λ ports. Fresh ports (joined (before rest) xs)) (before rest x) (λ ports at.
-        all-from-in (λ other. ports ≡ other → ⊥) (joined (before rest) xs) (λ other there. apart-before rest x xs fresh ports other at there)))
+    (all-from-in (λ ports. Fresh ports (joined (before rest) xs)) (before rest x) (λ ports at.
+    all-from-in (λ other. ports ≡ other → ⊥) (joined (before rest) xs) (λ other there. apart-before rest x xs fresh ports other at there)))
 
 -- each is listed once
 pub distinct-lists : (bs : List ℕ) → Distinct (lists-within bs)
@@ -115,10 +115,10 @@ module _ (degree : ℕ → ℕ) (depth : ℕ) where
       at : (i < depth) ⊎ (depth ≤ i) → (i - depth < length vs * depth → getD (each-bound vs) (i - depth) 0 ≡ degree (getD vs ((i - depth) / depth) 0)) → getD (each-bound (v ∷ vs)) i 0 ≡ degree (getD (v ∷ vs) (i / depth) 0)
       at (inl low) on =
           getD-append-left (replicate depth (degree v)) (each-bound vs) 0 i (omega (arith, length-replicate depth (degree v))) ∙ getD-replicate depth i (degree v) 0 low
-            ∙ ap (λ j. degree (getD (v ∷ vs) j 0)) (sym (div-eq-of-lt low))
+          ∙ ap (λ j. degree (getD (v ∷ vs) j 0)) (sym (div-eq-of-lt low))
       at (inr high) on =
           getD-append-right (replicate depth (degree v)) (each-bound vs) depth i 0 (length-replicate depth (degree v)) high ∙ on (omega (arith, suc-mul (length vs) depth))
-            ∙ ap (λ j. degree (getD (v ∷ vs) j 0)) (sym (div-eq-sub-div some high ∙ add-one ((i - depth) / depth)))
+          ∙ ap (λ j. degree (getD (v ∷ vs) j 0)) (sym (div-eq-sub-div some high ∙ add-one ((i - depth) / depth)))
 
 -- ports below their bounds, place by place
 within-from : (ports bs : List ℕ) → length ports ≡ length bs → ((i : ℕ) → i < length ports → getD ports i 0 < getD bs i 0) → Within-bounds ports bs
@@ -158,14 +158,17 @@ module _ (p : Layout) (sound : Sound p) (depth : ℕ) where
 
   -- the two forms of a filling say the same
   pub filling-fills : (ports : List ℕ) → Filling p depth ports → Fills p depth ports
-  filling-fills ports filling = (filling-long ports filling, λ i within.
-    let long : length ports ≡ cell-count p depth = filling-long ports filling in
-    subst (λ b. getD ports i 0 < b) (bounds-at i within) (each-getD (λ port b. port < b) ports (bounds p depth) i 0 0 filling (omega arith)))
+  filling-fills ports filling = (
+    filling-long ports filling,
+    λ i within.
+        let long : length ports ≡ cell-count p depth = filling-long ports filling in
+        subst (λ b. getD ports i 0 < b) (bounds-at i within) (each-getD (λ port b. port < b) ports (bounds p depth) i 0 0 filling (omega arith)),
+  )
 
   pub fills-filling : (ports : List ℕ) → Fills p depth ports → Filling p depth ports
   fills-filling ports (long, below) = within-from ports (bounds p depth) (long ∙ sym bounds-long) (λ i within.
-    let inside : i < cell-count p depth = omega arith in
-    subst (λ b. getD ports i 0 < b) (sym (bounds-at i inside)) (below i inside))
+      let inside : i < cell-count p depth = omega arith in
+      subst (λ b. getD ports i 0 < b) (sym (bounds-at i inside)) (below i inside))
 
   -- ---- the cells
 
@@ -212,9 +215,10 @@ module _ (p : Layout) (sound : Sound p) (depth : ℕ) where
 
   -- cells at one place are one cell
   pub same-place : (v k : ℕ) → (v ≡ p .root → ⊥) → v < p .size → k < depth → (w j : ℕ) → (w ≡ p .root → ⊥) → w < p .size → j < depth → cell-place p depth w j ≡ cell-place p depth v k → (w ≡ v) × (j ≡ k)
-  same-place v k v-apart v-in k-shallow w j w-apart w-in j-shallow same =
-      (sym (vertex-there w j w-apart w-in j-shallow) ∙ ap (vertex-at p depth) same ∙ vertex-there v k v-apart v-in k-shallow,
-        sym (digits-mod (rank (p .root) w) j-shallow) ∙ ap (λ i. i % depth) same ∙ digits-mod (rank (p .root) v) k-shallow)
+  same-place v k v-apart v-in k-shallow w j w-apart w-in j-shallow same = (
+    sym (vertex-there w j w-apart w-in j-shallow) ∙ ap (vertex-at p depth) same ∙ vertex-there v k v-apart v-in k-shallow,
+    sym (digits-mod (rank (p .root) w) j-shallow) ∙ ap (λ i. i % depth) same ∙ digits-mod (rank (p .root) v) k-shallow,
+  )
 
   -- ---- another port in one cell
 
@@ -229,22 +233,22 @@ module _ (p : Layout) (sound : Sound p) (depth : ℕ) where
     pub replaced-here : (d : ℕ) → filed-cells (p .size) (p .root) depth (set ports (cell-place p depth v k) q) v k d ≡ Some q
     replaced-here d =
         cell-port v k apart in-plan shallow (set ports (cell-place p depth v k) q) replaced-filling d
-          ∙ ap Some (getD-set-same ports (cell-place p depth v k) q 0 (place-inside v k apart in-plan shallow ports filling))
+        ∙ ap Some (getD-set-same ports (cell-place p depth v k) q 0 (place-inside v k apart in-plan shallow ports filling))
 
     -- the other cells are as they were
     pub replaced-other : (w j d : ℕ) → ((w ≡ v) × (j ≡ k) → ⊥) → filed-cells (p .size) (p .root) depth (set ports (cell-place p depth v k) q) w j d ≡ filed-cells (p .size) (p .root) depth ports w j d
     replaced-other w j d differs = ⊎-elim
-      (λ lacks. lacking (set ports (cell-place p depth v k) q) lacks ∙ sym (lacking ports lacks))
-      (λ has.
+        (λ lacks. lacking (set ports (cell-place p depth v k) q) lacks ∙ sym (lacking ports lacks))
+        (λ has.
         let (no-root, rest) = or-parts (eqb w (p .root)) _ has in
         let (vertex, index) = or-parts (leb (p .size) w) _ rest in
         let w-apart : w ≡ p .root → ⊥ = eqb-false w (p .root) no-root in
         let w-in : w < p .size = leb-false (p .size) w vertex in
         let j-shallow : j < depth = leb-false depth j index in
         cell-nth w j w-apart w-in j-shallow (set ports (cell-place p depth v k) q) d
-          ∙ nth-set-other ports (cell-place p depth v k) (cell-place p depth w j) q (λ same. differs (same-place v k apart in-plan shallow w j w-apart w-in j-shallow same))
-          ∙ sym (cell-nth w j w-apart w-in j-shallow ports d))
-      (cases-bool (lacks-cell (p .size) (p .root) depth w j))
+        ∙ nth-set-other ports (cell-place p depth v k) (cell-place p depth w j) q (λ same. differs (same-place v k apart in-plan shallow w j w-apart w-in j-shallow same))
+        ∙ sym (cell-nth w j w-apart w-in j-shallow ports d))
+        (cases-bool (lacks-cell (p .size) (p .root) depth w j))
       where
         lacking : (xs : List ℕ) → lacks-cell (p .size) (p .root) depth w j ≡ true → filed-cells (p .size) (p .root) depth xs w j d ≡ None
         lacking xs lacks = ap (λ b. then (cond b None (Some (cell-place p depth w j))) (nth xs)) lacks

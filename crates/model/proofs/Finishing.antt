@@ -65,6 +65,7 @@ raised-count c i (e ∷ es) = by (among i c) (raised-count c (suc i) es)
   where
     rest : List Entry
     rest = changed-from higher c (suc i) es
+
     by : (b : Bool) → open-count rest ≡ open-count es → cond (cond b (higher e) e .settled) (open-count rest) (suc (open-count rest)) ≡ cond (e .settled) (open-count es) (suc (open-count es))
     by true same = ap (λ n. cond (e .settled) n (suc n)) same
     by false same = ap (λ n. cond (e .settled) n (suc n)) same
@@ -75,6 +76,7 @@ settled-most c i (e ∷ es) = by (among i c) (e .settled) refl (settled-most c (
   where
     rest : List Entry
     rest = changed-from shut c (suc i) es
+
     by : (b s : Bool) → e .settled ≡ s → open-count rest ≤ open-count es → cond (cond b (shut e) e .settled) (open-count rest) (suc (open-count rest)) ≤ cond s (open-count es) (suc (open-count es))
     by true true is less = omega arith
     by true false is less = omega arith
@@ -93,6 +95,7 @@ settled-less c i (e ∷ es) (suc k) low on open-k = by (among i c) (e .settled) 
   where
     rest : List Entry
     rest = changed-from shut c (suc i) es
+
     by : (b s : Bool) → e .settled ≡ s → open-count rest < open-count es → cond (cond b (shut e) e .settled) (open-count rest) (suc (open-count rest)) < cond s (open-count es) (suc (open-count es))
     by true true is less = less
     by true false is less = omega arith
@@ -106,7 +109,7 @@ trail-keeps f settled zero path v x on = on
 trail-keeps f settled (suc k) path v x on = by (settled v) (among v path) (f v) (λ w. trail-keeps f settled k (path ++ v ∷ []) w x (among-left x path (v ∷ []) on))
   where
     by : (s b : Bool) (o : Option ℕ) → ((w : ℕ) → among x (trail-on f settled k (path ++ v ∷ []) w .path) ≡ true)
-      → among x (cond s (record { path = path; loop = None }) (cond b (record { path = path; loop = Some (from-on v path) }) (if-some o (record { path = path ++ v ∷ []; loop = None }) (λ w. trail-on f settled k (path ++ v ∷ []) w))) .path) ≡ true
+        → among x (cond s (record { path = path; loop = None }) (cond b (record { path = path; loop = Some (from-on v path) }) (if-some o (record { path = path ++ v ∷ []; loop = None }) (λ w. trail-on f settled k (path ++ v ∷ []) w))) .path) ≡ true
     by true b o rest = on
     by false true o rest = on
     by false false None rest = among-left x path (v ∷ []) on
@@ -143,19 +146,21 @@ module _ (p : Layout) (a : Cells) (sound : Sound p) (l : List Pop) (room : lengt
   settles-on : (h : Held) (cs : List Coloured) → Good p a sound l h cs → (path : List ℕ) (v : ℕ) → among v path ≡ true → v < p .size → is-settled (h .draw .entries) v ≡ false → Gets-on h cs (settles h path)
   settles-on h cs good path v on low open-v =
       let less : open-count (changed shut path (h .draw .entries)) < open-count (h .draw .entries) =
-        settled-less path 0 (h .draw .entries) v (let e : length (h .draw .entries) ≡ p .size = good .sane .sized in omega arith) (subst (λ j. among j path ≡ true) (let z : v ≡ 0 + v = omega arith in z) on) open-v in
+      settled-less path 0 (h .draw .entries) v (let e : length (h .draw .entries) ≡ p .size = good .sane .sized in omega arith) (subst (λ j. among j path ≡ true) (let z : v ≡ 0 + v = omega arith in z) on) open-v in
       let same : length (cs ++ []) ≡ length cs = ap length (append-nil cs) in
       (refl, omega arith)
 
   -- a try at an open vertex
   trail-gets-on : (h : Held) (cs : List Coloured) → Good p a sound l h cs → (v : ℕ) → v < p .size → is-settled (h .draw .entries) v ≡ false → (t : Trail) → among v (t .path) ≡ true
-    → Told (shown p a (h .draw .entries)) (is-settled (h .draw .entries)) (p .size) t → Gets-on h cs (by-trail h t)
+      → Told (shown p a (h .draw .entries)) (is-settled (h .draw .entries)) (p .size) t → Gets-on h cs (by-trail h t)
   trail-gets-on h cs good v low open-v t on tells = by (t .loop) refl
     where
       f : ℕ → Option ℕ
       f = shown p a (h .draw .entries)
+
       By : Option (List ℕ) → Type 0
       By o = Gets-on h cs (if-some o (settles h (t .path)) (λ l2. cond (ltb (h .draw .pops) (length (h .list))) (pops-cycle h (turned l2)) (refused h fault.ListFull)))
+
       by : (o : Option (List ℕ)) → t .loop ≡ o → By o
       by None is = settles-on h cs good (t .path) v on low open-v
       by (Some l2) is = popped (subst (λ o. Cases o (((x : ℕ) → among x (t .path) ≡ true → Leaves f (is-settled (h .draw .entries)) x) × Closed-under f (is-settled (h .draw .entries)) (t .path)) (λ l3. Round f (t .path) l3)) is (tells .ends))
@@ -177,6 +182,7 @@ module _ (p : Layout) (a : Cells) (sound : Sound p) (l : List Pop) (room : lengt
     where
       t : Trail
       t = trail p a (h .draw .entries) v
+
       by : (b : Bool) → b ≡ false → (c : Bool) → c ≡ false → (s : Bool) → s ≡ false → Gets-on h cs (if-some (first-fault ((b, fault.OtherPlan) ∷ (c, fault.Vertex v) ∷ (s, fault.AlreadySettled v) ∷ [])) (by-trail h t) (λ e. refused h e))
       by true never c cs2 s ss = absurd (true≢false never)
       by false b2 true never s ss = absurd (true≢false never)
@@ -188,8 +194,10 @@ module _ (p : Layout) (a : Cells) (sound : Sound p) (l : List Pop) (room : lengt
     where
       es : List Entry
       es = h .draw .entries
+
       long : length (open-marks es) ≡ length es
       long = length-map es (λ (e : Entry). not (e .settled))
+
       by : (o : Option ℕ) → Picks-open (open-marks es) o → Gets-on h cs (if-some o (refused h fault.NothingOpen) (λ v. telling v (tries p a v h)))
       by None none = absurd (both-ways _ some (none-settled es (λ v low. not-false _ (sym (open-at es v low) ∙ none v (omega (arith, long))))))
       by (Some v) (low, on) =
@@ -216,10 +224,12 @@ module _ (p : Layout) (a : Cells) (sound : Sound p) (l : List Pop) (room : lengt
     where
       x : After (Result Tried DrawFault)
       x = steps p a s h
+
       rest : After (Result (ℕ × Stop) DrawFault)
       rest = runs-on p a (all-told s (x .told)) left (suc made) (x .held)
+
       by : (b : Bool) → none-open (h .draw .entries) ≡ b → (to-do (x .held) (cs ++ x .popped) ≤ left → Finished rest)
-        → Finished (cond b (stopped h made Ended) (cond (isOk (x .answer)) (preceded (x .popped) (x .told) rest) (stopped h made Full)))
+          → Finished (cond b (stopped h made Ended) (cond (isOk (x .answer)) (preceded (x .popped) (x .told) rest) (stopped h made Full)))
       by true none later = (made, refl, none)
       by false some later =
           let (went, less) = steps-on h cs good s lawful some in

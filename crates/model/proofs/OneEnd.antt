@@ -70,9 +70,9 @@ module _ (p : Layout) (a : Cells) (sound : Sound p) (l : List Pop) (calls : List
         ports = λ v. ap (visible p a v) (same v);
         dry = λ v. ap (is-dry p a v) (same v);
         tree = λ buffer.
-          ap (λ b. answer b (none-open (w .draw .entries)) (heights-of w) buffer) (is-of-plan p a sound l w cs good)
-          ∙ ap (λ b. answer true b (heights-of w) buffer) over
-          ∙ ap (λ h. answer true true h buffer) (fun-ext same);
+            ap (λ b. answer b (none-open (w .draw .entries)) (heights-of w) buffer) (is-of-plan p a sound l w cs good)
+            ∙ ap (λ b. answer true b (heights-of w) buffer) over
+            ∙ ap (λ h. answer true true h buffer) (fun-ext same);
       }
 
   on-the-way : On-the-way p a l w cs
@@ -86,7 +86,7 @@ module _ (p : Layout) (a : Cells) (sound : Sound p) (l : List Pop) (calls : List
   }
 
 agree : (p : Layout) (a : Cells) → Sound p → (l m : List Pop) (calls others : List Call) → Over (worked p a calls (start p l)) → Over (worked p a others (start p m))
-  → Agree p a (worked p a calls (start p l)) (worked p a others (start p m)) (popped-by p a calls (start p l)) (popped-by p a others (start p m))
+    → Agree p a (worked p a calls (start p l)) (worked p a others (start p m)) (popped-by p a calls (start p l)) (popped-by p a others (start p m))
 agree p a sound l m calls others over over2 =
     let x = at-end p a sound l calls over in
     let y = at-end p a sound m others over2 in
@@ -108,7 +108,7 @@ lowest-lawful : Lawful lowest-open
 lowest-lawful told marks = by (lowest (λ v. getD marks v false) (length marks)) (lowest-tells (λ v. getD marks v false) (length marks))
   where
     by : (o : Option ℕ) → Cases o (None-below (λ v. getD marks v false) (length marks)) (λ v. Is-lowest (λ v. getD marks v false) (length marks) v)
-      → Cases o ((v : ℕ) → v < length marks → getD marks v false ≡ false) (λ v. (v < length marks) × (getD marks v false ≡ true))
+        → Cases o ((v : ℕ) → v < length marks → getD marks v false ≡ false) (λ v. (v < length marks) × (getD marks v false ≡ true))
     by None none = none
     by (Some v) found = (found .within, found .passes)
 
@@ -128,9 +128,11 @@ module _ (p : Layout) (a : Cells) (h : Heights) (t : List ℕ) where
     where
       here : passes (visible p a x (h x)) (λ q. eqb q (getD t x 0)) ≡ true
       here = and-parts _ (all-show p a h t vs) all .0
+
       look : (o : Option ℕ) → passes o (λ q. eqb q (getD t x 0)) ≡ true → o ≡ Some (getD t x 0)
       look None never = absurd (false≢true never)
       look (Some q) same = ap Some (eqb-true q (getD t x 0) same)
+
       either : In v (x ∷ vs) → (In v vs → visible p a v (h v) ≡ Some (getD t v 0)) → visible p a v (h v) ≡ Some (getD t v 0)
       either (inl e) rest = subst (λ y. visible p a y (h y) ≡ Some (getD t y 0)) (sym e) (look (visible p a x (h x)) here)
       either (inr later) rest = rest later
@@ -146,7 +148,7 @@ module _ (p : Layout) (a : Cells) (h : Heights) (t : List ℕ) where
   shows-all shows = each-shown (drained p) (λ v there. let (low, other) = in-drained p v there in shows v low other)
 
 in-tree : (p : Layout) (depth : ℕ) (F t : List ℕ) (l : List Pop) (calls : List Call) → Sound p → let a = cells-of p depth F in let w = worked p a calls (start p l) in Over w
-  → (ends-in p depth t F ≡ true → Shows p a (heights-of w) t) × (Shows p a (heights-of w) t → ends-in p depth t F ≡ true)
+    → (ends-in p depth t F ≡ true → Shows p a (heights-of w) t) × (Shows p a (heights-of w) t → ends-in p depth t F ≡ true)
 in-tree p depth F t l calls sound over =
     let a = cells-of p depth F in
     let same : heights-of (worked p a calls (start p l)) ≡ end-of p a .heights = fun-ext (at-end p a sound l calls over .heights) in
@@ -158,7 +160,7 @@ is-tree : (p : Layout) → Sound p → (u : List ℕ) → Says-tree p u → Is-t
 is-tree p sound u says = tree-law p sound u .yes says
 
 reseats : (p : Layout) (depth : ℕ) (F t u : List ℕ) (l : List Pop) (calls : List Call) → Sound p → depth ≤ 4096 → In F (fillings p depth) → Says-tree p u
-  → let a = cells-of p depth F in let w = worked p a calls (start p l) in Over w → Shows p a (heights-of w) t → Reseats p depth F t u (heights-of w) (popped-by p a calls (start p l))
+    → let a = cells-of p depth F in let w = worked p a calls (start p l) in Over w → Shows p a (heights-of w) t → Reseats p depth F t u (heights-of w) (popped-by p a calls (start p l))
 reseats p depth F t u l calls sound deep listed says over shows =
     let a = cells-of p depth F in
     let h = heights-of (worked p a calls (start p l)) in
@@ -169,13 +171,12 @@ reseats p depth F t u l calls sound deep listed says over shows =
     record {
       filling = fillings-all p depth (reseated p depth h u F) (reseated-filling p sound depth deep F filling h t u shows tree);
       any = λ m others over2.
-        let end = at-end p new sound m others over2 in
-        let level : h ≡ heights-of (worked p new others (start p m)) = fun-ext (λ v. same v ∙ sym (end .heights v)) in
-        (
-          shuffled-trans _ _ _ (shuffled-sym _ _ shuffled) (end .cycles),
-          subst (λ g. Shows p new g u) level (reseated-shows p sound depth deep F filling h t u shows tree),
-          subst (λ g. reseated p depth g t (reseated p depth h u F) ≡ F) level (reseated-back p sound depth deep F filling h t u shows tree),
-        );
+          let end = at-end p new sound m others over2 in
+          let level : h ≡ heights-of (worked p new others (start p m)) = fun-ext (λ v. same v ∙ sym (end .heights v)) in (
+            shuffled-trans _ _ _ (shuffled-sym _ _ shuffled) (end .cycles),
+            subst (λ g. Shows p new g u) level (reseated-shows p sound depth deep F filling h t u shows tree),
+            subst (λ g. reseated p depth g t (reseated p depth h u F) ≡ F) level (reseated-back p sound depth deep F filling h t u shows tree),
+          );
       some = some-end p new sound;
     }
 
@@ -184,7 +185,7 @@ abbrev end-heights : Layout → ℕ → List ℕ → Heights
 end-heights p depth F = end-of p (cells-of p depth F) .heights
 
 there-and-back : (p : Layout) (depth : ℕ) (t u : List ℕ) → Sound p → depth ≤ 4096 → Says-tree p u
-  → There-and-back (fillings p depth) (ends-in p depth t) (ends-in p depth u) (λ F. reseated p depth (end-heights p depth F) u F) (λ F. reseated p depth (end-heights p depth F) t F)
+    → There-and-back (fillings p depth) (ends-in p depth t) (ends-in p depth u) (λ F. reseated p depth (end-heights p depth F) u F) (λ F. reseated p depth (end-heights p depth F) t F)
 there-and-back p depth t u sound deep says F listed ends =
     let a = cells-of p depth F in
     let h = end-heights p depth F in
@@ -194,8 +195,7 @@ there-and-back p depth t u sound deep says F listed ends =
     let G = reseated p depth h u F in
     let new = cells-of p depth G in
     let (shuffled, same) = reseated-end p sound depth deep F filling h t u shows tree (end-of p a .cycles) (end-pops p a sound) in
-    let level : h ≡ end-heights p depth G = fun-ext same in
-    (
+    let level : h ≡ end-heights p depth G = fun-ext same in (
       fillings-all p depth G (reseated-filling p sound depth deep F filling h t u shows tree),
       shows-all p new (end-heights p depth G) u (subst (λ g. Shows p new g u) level (reseated-shows p sound depth deep F filling h t u shows tree)),
       subst (λ g. reseated p depth g t G ≡ F) level (reseated-back p sound depth deep F filling h t u shows tree),
@@ -213,5 +213,5 @@ one-end = record {
   each-once = fillings-once;
   in-tree = in-tree;
   as-many = λ p depth t u sound deep tree-t tree-u. count-same (fillings p depth) (ends-in p depth t) (ends-in p depth u) (λ F. reseated p depth (end-heights p depth F) u F) (λ F. reseated p depth (end-heights p depth F) t F)
-    (fillings-once p depth) (there-and-back p depth t u sound deep tree-u) (there-and-back p depth u t sound deep tree-t);
+      (fillings-once p depth) (there-and-back p depth t u sound deep tree-u) (there-and-back p depth u t sound deep tree-t);
 }

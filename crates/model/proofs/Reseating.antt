@@ -108,7 +108,7 @@ module _ (p : Layout) (sound : Sound p) (depth : ℕ) (h : Heights) (u : List �
 -- seats that get back what F has there: F comes back
 module _ (p : Layout) (depth : ℕ) (h : Heights) (t F : List ℕ) where
   restored : (vs G : List ℕ) → ((v : ℕ) → In v vs → (getD t v 0 ≡ getD F (cell-place p depth v (h v)) 0) × (cell-place p depth v (h v) < length G))
-    → ((i : ℕ) → ((v : ℕ) → In v vs → cell-place p depth v (h v) ≡ i → ⊥) → getD G i 0 ≡ getD F i 0) → (i : ℕ) → getD (seats p depth h t vs G) i 0 ≡ getD F i 0
+      → ((i : ℕ) → ((v : ℕ) → In v vs → cell-place p depth v (h v) ≡ i → ⊥) → getD G i 0 ≡ getD F i 0) → (i : ℕ) → getD (seats p depth h t vs G) i 0 ≡ getD F i 0
   restored [] G old off i = off i (λ v never. absurd never)
   restored (v ∷ vs) G old off i =
       let here = cell-place p depth v (h v) in
@@ -116,9 +116,9 @@ module _ (p : Layout) (depth : ℕ) (h : Heights) (t F : List ℕ) where
       restored vs (set G here (getD t v 0))
       (λ w there. let (old-w, in-w) = old w (inr there) in (old-w, subst (λ n. cell-place p depth w (h w) < n) (sym (length-set G here (getD t v 0))) in-w))
       (λ j apart. ⊎-elim
-        (λ e. subst (λ x. getD (set G here (getD t v 0)) x 0 ≡ getD F x 0) (sym e) (getD-set-same G here (getD t v 0) 0 inside ∙ same))
-        (λ other. getD-set-other G here j (getD t v 0) 0 other ∙ off j (elsewhere j apart other))
-        (cases-eq j here))
+      (λ e. subst (λ x. getD (set G here (getD t v 0)) x 0 ≡ getD F x 0) (sym e) (getD-set-same G here (getD t v 0) 0 inside ∙ same))
+      (λ other. getD-set-other G here j (getD t v 0) 0 other ∙ off j (elsewhere j apart other))
+      (cases-eq j here))
       i
     where
       elsewhere : (j : ℕ) → ((w : ℕ) → In w vs → cell-place p depth w (h w) ≡ j → ⊥) → (j ≡ cell-place p depth v (h v) → ⊥) → (w : ℕ) → In w (v ∷ vs) → cell-place p depth w (h w) ≡ j → ⊥
@@ -128,7 +128,7 @@ module _ (p : Layout) (depth : ℕ) (h : Heights) (t F : List ℕ) where
 -- ---- an ended draw over a filling, and another tree
 
 module _ (p : Layout) (sound : Sound p) (depth : ℕ) (deep : depth ≤ 4096) (F : List ℕ) (filling : Filling p depth F) (h : Heights) (t u : List ℕ)
-  (shows : Shows p (cells-of p depth F) h t) (tree : Is-tree p u) where
+    (shows : Shows p (cells-of p depth F) h t) (tree : Is-tree p u) where
   abbrev old : Cells
   old = cells-of p depth F
 
@@ -144,6 +144,7 @@ module _ (p : Layout) (sound : Sound p) (depth : ℕ) (deep : depth ≤ 4096) (F
     where
       nowhere : p .degree v ≤ getD u v 0 → follow p u v ≡ None
       nowhere ge = ap (λ b. cond b None (p .target v (getD u v 0))) (ne-eqb v (p .root) apart) ∙ sound .target-none v (getD u v 0) ge
+
       stuck : p .degree v ≤ getD u v 0 → Reaches p u v → ⊥
       stuck ge reaches = no-lead (follow p u) v (p .root) apart (nowhere ge) reaches
 
@@ -196,9 +197,10 @@ module _ (p : Layout) (sound : Sound p) (depth : ℕ) (deep : depth ≤ 4096) (F
       let long : length reseated-list ≡ length F = seats-long p sound depth h u (drained p) F in
       ext-getD 0 (reseated p depth h t reseated-list) F (seats-long p sound depth h t (drained p) reseated-list ∙ long)
       (λ i inside. restored p depth h t F (drained p) reseated-list
-        (λ v there.
-          let s = seat v there in
-          let (low, other) = in-drained p v there in
-          (same-some (old v (h v) (p .degree v)) (getD t v 0) (getD F (cell-place p depth v (h v)) 0) (visible-some p old v (h v) (getD t v 0) (shows v low other) .cell) (cell-port p sound depth v (h v) (s .apart) (s .in-plan) (s .shallow) F filling (p .degree v)),
-          subst (λ n. cell-place p depth v (h v) < n) (sym long) (place-inside p sound depth v (h v) (s .apart) (s .in-plan) (s .shallow) F filling)))
-        (λ j off. seats-off p sound depth h u (drained p) F j off) i)
+      (λ v there.
+      let s = seat v there in
+      let (low, other) = in-drained p v there in (
+        same-some (old v (h v) (p .degree v)) (getD t v 0) (getD F (cell-place p depth v (h v)) 0) (visible-some p old v (h v) (getD t v 0) (shows v low other) .cell) (cell-port p sound depth v (h v) (s .apart) (s .in-plan) (s .shallow) F filling (p .degree v)),
+        subst (λ n. cell-place p depth v (h v) < n) (sym long) (place-inside p sound depth v (h v) (s .apart) (s .in-plan) (s .shallow) F filling),
+      ))
+      (λ j off. seats-off p sound depth h u (drained p) F j off) i)

@@ -55,9 +55,9 @@ on-more v vs fresh (suc n) = by (eqb n v) refl (on-more v vs fresh n)
     by false is rest =
         let apart : n ≡ v → ⊥ = eqb-false n v is in
         let same : cond {A = ℕ} (ltb v (suc n)) 1 0 ≡ cond (ltb v n) 1 0 = ap (λ b. cond {A = ℕ} b 1 0) (⊎-elim
-          (λ lt. lt-ltb v (suc n) (let l = ltb-true v n lt in omega arith) ∙ sym lt)
-          (λ ge. le-ltb v (suc n) (let g = ltb-false v n ge in omega arith) ∙ sym ge)
-          (cases-bool (ltb v n))) in
+        (λ lt. lt-ltb v (suc n) (let l = ltb-true v n lt in omega arith) ∙ sym lt)
+        (λ ge. le-ltb v (suc n) (let g = ltb-false v n ge in omega arith) ∙ sym ge)
+        (cases-bool (ltb v n))) in
         omega arith
 
 on-length : (c : List ℕ) (n : ℕ) → Distinct c → All (λ v. v < n) c → on-below c n ≡ length c
@@ -83,7 +83,7 @@ sum-flat (suc n) = omega (arith, sum-flat n)
 
 -- the list's first `pops` records have the sum of the heights for their lengths
 pub lengths-sum : (p : Layout) (a : Cells) (sound : Sound p) (l : List Pop) (h : Held) (cs : List Coloured) → Good p a sound l h cs
-  → lengths-of (take (h .draw .pops) (h .list)) ≡ sum-below (height-of (h .draw .entries)) (p .size)
+    → lengths-of (take (h .draw .pops) (h .list)) ≡ sum-below (height-of (h .draw .entries)) (p .size)
 lengths-sum p a sound l h cs good =
     let taken : take (h .draw .pops) (h .list) ≡ map record-of cs = ap (take (h .draw .pops)) (good .listed) ∙ take-at (map record-of cs) (drop (length cs) l) (h .draw .pops) (length-map cs record-of ∙ sym (good .counted)) in
     let whole = pops-sum (sight p a) (p .size) 4096 (sight-within p a sound) flat cs (height-of (h .draw .entries)) (good .popped) in

@@ -289,8 +289,8 @@ module _ (f : ℕ → Option ℕ) (settled : ℕ → Bool) (n : ℕ) (below : (u
   told (suc k) path v room low chain d opens = by (settled v) refl (among v path) refl (f v) refl (λ w in-plan c e o. told k (path ++ v ∷ []) w (let long : length (path ++ v ∷ []) ≡ length path + 1 = length-append path (v ∷ []) in omega arith) in-plan c e o)
     where
       by : (s : Bool) → settled v ≡ s → (b : Bool) → among v path ≡ b → (o : Option ℕ) → f v ≡ o
-        → ((w : ℕ) → w < n → Chain (path ++ v ∷ []) w → Distinct (path ++ v ∷ []) → ((x : ℕ) → among x (path ++ v ∷ []) ≡ true → settled x ≡ false) → Told f settled n (trail-on f settled k (path ++ v ∷ []) w))
-        → Told f settled n (cond s (record { path = path; loop = None }) (cond b (record { path = path; loop = Some (from-on v path) }) (if-some o (record { path = path ++ v ∷ []; loop = None }) (λ w. trail-on f settled k (path ++ v ∷ []) w))))
+          → ((w : ℕ) → w < n → Chain (path ++ v ∷ []) w → Distinct (path ++ v ∷ []) → ((x : ℕ) → among x (path ++ v ∷ []) ≡ true → settled x ≡ false) → Told f settled n (trail-on f settled k (path ++ v ∷ []) w))
+          → Told f settled n (cond s (record { path = path; loop = None }) (cond b (record { path = path; loop = Some (from-on v path) }) (if-some o (record { path = path ++ v ∷ []; loop = None }) (λ w. trail-on f settled k (path ++ v ∷ []) w))))
       by true shut b is o arrow rest = stops-settled path v chain d opens shut
       by false open-v true on o arrow rest = record { inside = chain-below path v chain; all-open = opens; distinct = d; ends = round path v chain d on }
       by false open-v false off None none rest = stops-dry path v chain d opens open-v off low none

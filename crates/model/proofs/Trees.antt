@@ -27,9 +27,9 @@ use Rattle.model.proofs.Ways.{none-some, same-some}
 
 pub target-below : (p : Layout) → Sound p → (v i w : ℕ) → p .target v i ≡ Some w → w < p .size
 target-below p sound v i w is = ⊎-elim
-  (λ lt. let (x, some, below) = sound .target-some v i lt in subst (λ y. y < p .size) (same-some (p .target v i) x w some is) below)
-  (λ ge. absurd (none-some (p .target v i) w (sound .target-none v i ge) is))
-  (cases-lt i (p .degree v))
+    (λ lt. let (x, some, below) = sound .target-some v i lt in subst (λ y. y < p .size) (same-some (p .target v i) x w some is) below)
+    (λ ge. absurd (none-some (p .target v i) w (sound .target-none v i ge) is))
+    (cases-lt i (p .degree v))
 
 module _ (p : Layout) (sound : Sound p) (ports : List ℕ) where
   -- the root's entry leads nowhere

@@ -57,7 +57,7 @@ pub record At-end (p : Layout) (a : Cells) (h : Held) (cs : List Coloured) : Typ
 -- a run of any lawful order that comes next stops as ended with nothing open, given budget and room
 abbrev pub Finishes : Layout → Cells → List Pop → Held → Type 0
 Finishes p a l h = (s : Strategy) (budget : ℕ) → Lawful s → length (end-of p a .cycles) + p .size ≤ budget → length (end-of p a .cycles) ≤ length l
-  → (k : ℕ) × (does p a (run s budget) h .answer ≡ Ok (k, Ended)) × Over (does p a (run s budget) h .held)
+    → (k : ℕ) × (does p a (run s budget) h .answer ≡ Ok (k, Ended)) × Over (does p a (run s budget) h .held)
 
 -- after any calls, from any list l: the popped cycles are among the end's, none twice; pops is their number; the list holds their records in turn, and beyond
 -- them what it held; the recorded lengths add up to the sum of the heights
@@ -82,7 +82,7 @@ pub record Agree (p : Layout) (a : Cells) (g h : Held) (bs cs : List Coloured) :
 pub record Reseats (p : Layout) (depth : ℕ) (F t u : List ℕ) (h : Heights) (cs : List Coloured) : Type 0 where
   pub filling : In (reseated p depth h u F) (fillings p depth)
   pub any : (l : List Pop) (calls : List Call) → let a = cells-of p depth (reseated p depth h u F) in let w = worked p a calls (start p l) in Over w
-    → Shuffled cs (popped-by p a calls (start p l)) × Shows p a (heights-of w) u × (reseated p depth (heights-of w) t (reseated p depth h u F) ≡ F)
+      → Shuffled cs (popped-by p a calls (start p l)) × Shows p a (heights-of w) u × (reseated p depth (heights-of w) t (reseated p depth h u F) ≡ F)
   pub some : (l : List Pop) × (calls : List Call) × Over (worked p (cells-of p depth (reseated p depth h u F)) calls (start p l))
 
 -- each of the vertices shows its port in t at the heights
@@ -102,13 +102,13 @@ pub record One-end : Type 0 where
   pub ends : (p : Layout) (a : Cells) (l : List Pop) (calls : List Call) → Sound p → Over (worked p a calls (start p l)) → At-end p a (worked p a calls (start p l)) (popped-by p a calls (start p l))
   pub on-the-way : (p : Layout) (a : Cells) (l : List Pop) (calls : List Call) → Sound p → On-the-way p a l (worked p a calls (start p l)) (popped-by p a calls (start p l))
   pub agree : (p : Layout) (a : Cells) (l m : List Pop) (calls others : List Call) → Sound p → Over (worked p a calls (start p l)) → Over (worked p a others (start p m))
-    → Agree p a (worked p a calls (start p l)) (worked p a others (start p m)) (popped-by p a calls (start p l)) (popped-by p a others (start p m))
+      → Agree p a (worked p a calls (start p l)) (worked p a others (start p m)) (popped-by p a calls (start p l)) (popped-by p a others (start p m))
   pub reseats : (p : Layout) (depth : ℕ) (F t u : List ℕ) (l : List Pop) (calls : List Call) → Sound p → depth ≤ 4096 → In F (fillings p depth) → Says-tree p u
-    → let a = cells-of p depth F in let w = worked p a calls (start p l) in Over w → Shows p a (heights-of w) t → Reseats p depth F t u (heights-of w) (popped-by p a calls (start p l))
+      → let a = cells-of p depth F in let w = worked p a calls (start p l) in Over w → Shows p a (heights-of w) t → Reseats p depth F t u (heights-of w) (popped-by p a calls (start p l))
   -- the fillings are listed, each once
   pub are-fillings : (p : Layout) (depth : ℕ) (F : List ℕ) → Sound p → (In F (fillings p depth) → Fills p depth F) × (Fills p depth F → In F (fillings p depth))
   pub each-once : (p : Layout) (depth : ℕ) → Distinct (fillings p depth)
   -- ending in a tree is what every draw over the filling does that has ended
   pub in-tree : (p : Layout) (depth : ℕ) (F t : List ℕ) (l : List Pop) (calls : List Call) → Sound p → let a = cells-of p depth F in let w = worked p a calls (start p l) in Over w
-    → (ends-in p depth t F ≡ true → Shows p a (heights-of w) t) × (Shows p a (heights-of w) t → ends-in p depth t F ≡ true)
+      → (ends-in p depth t F ≡ true → Shows p a (heights-of w) t) × (Shows p a (heights-of w) t → ends-in p depth t F ≡ true)
   pub as-many : (p : Layout) (depth : ℕ) (t u : List ℕ) → Sound p → depth ≤ 4096 → Says-tree p t → Says-tree p u → countBy (ends-in p depth t) (fillings p depth) ≡ countBy (ends-in p depth u) (fillings p depth)

@@ -58,6 +58,10 @@ pub record Obeyed (d : Desk) (i : ℕ) (c : Asked) (reply : List ℕ × Outcome)
   pub takes : Takes (before c d .1) c result after
   pub replies : reply ≡ (due-text (before c d .0) ++ answered-text i result, outcome-of result)
 
+-- the command is done, whether its reply could be worded or not
+abbrev pub Some-obeyed : Desk → ℕ → Asked → Desk → Type 0
+Some-obeyed d i c after = (reply : List ℕ × Outcome) × Obeyed d i c reply after
+
 -- the words ask for a command, which is done, or hold a mistake, which is told and changes nothing
 abbrev pub Answered : Desk → ℕ → Result Asked Mistake → List ℕ × Outcome → Desk → Type 0
 Answered d i (Ok c) reply after = Obeyed d i c reply after
@@ -71,3 +75,7 @@ By-words d i (w ∷ ws) reply after = Answered d i (command-of (w ∷ ws)) reply
 -- what line i, of these bytes, does and writes
 abbrev pub Replied : Desk → ℕ → List ℕ → List ℕ × Outcome → Desk → Type 0
 Replied d i line reply after = By-words d i (words-of line) reply after
+
+-- there was no memory for the reply: the line was not done, or it was
+abbrev pub Untold : Desk → ℕ → List ℕ → Desk → Type 0
+Untold d i line after = (after ≡ d) ⊎ ((reply : List ℕ × Outcome) × Replied d i line reply after)

@@ -5,7 +5,8 @@ ghost use Rattle.std.specs.Of.String.{string-bytes};
 ghost use Rattle.std.specs.Vec.{made};
 ghost use Rattle.commands.specs.Answers.{asked};
 ghost use Rattle.sheet.specs.Desks.{desk-of, closes};
-ghost use Rattle.sheet.specs.Lines.{worse, outcome-of, due-text, answered-text, Obeyed, Replied, shown};
+ghost use Rattle.sheet.specs.Lines.{worse, outcome-of, due-text, answered-text, Obeyed, Some-obeyed, Replied, Untold, shown};
+ghost use Rattle.std.specs.Results.{Cases};
 use crate::answer::Answer;
 use crate::answer::Misplaced;
 use crate::session::Session;
@@ -20,7 +21,7 @@ use std::alloc::Global;
 
 // How a line went.
 #[derive(Clone, Copy, PartialEq, Eq)]
-pub enum Outcome {
+pub(crate) enum Outcome {
     Fine,
     Refused,
     // It is no command, or out of place.
@@ -29,7 +30,7 @@ pub enum Outcome {
 
 impl Outcome {
     // Of two outcomes the worse: a bad line is worse than a refusal.
-    pub fn worse(self, other: Outcome) -> Outcome
+    pub(crate) fn worse(self, other: Outcome) -> Outcome
         ensures { λ r. ⌜ r ≡ worse self other ⌝ }
     {
         match self {
@@ -44,9 +45,9 @@ impl Outcome {
 }
 
 #[derive(Drop)]
-pub struct Reply {
-    pub text: String,
-    pub outcome: Outcome,
+pub(crate) struct Reply {
+    pub(crate) text: String,
+    pub(crate) outcome: Outcome,
 }
 
 fn how_it_went(answer: Result<Answer, Misplaced>) -> Outcome
@@ -103,7 +104,7 @@ fn obey(
     number: usize,
     command: &Command,
 ) -> Result<Reply, AllocError>
-    ensures { λ r. ⌜ made r (λ a. Obeyed (desk-of (now (session .entry))) number (asked (now (command .entry))) (shown a) (desk-of (now (session .exit)))) ⌝ }
+    ensures { λ r. ⌜ Cases r (λ a. Obeyed (desk-of (now (session .entry))) number (asked (now (command .entry))) (shown a) (desk-of (now (session .exit)))) (λ _. Some-obeyed (desk-of (now (session .entry))) number (asked (now (command .entry))) (desk-of (now (session .exit)))) ⌝ }
 {
     let due = session.before(command);
     let answer = session.take(heap, command);
@@ -111,13 +112,13 @@ fn obey(
 }
 
 // Does the line and words what is written for it. Where it fails for want of memory, the sheet cannot go on.
-pub fn do_line(
+pub(crate) fn do_line(
     session: &mut Session,
     heap: Global,
     number: usize,
     line: &[u8],
 ) -> Result<Reply, AllocError>
-    ensures { λ r. ⌜ made r (λ a. Replied (desk-of (now (session .entry))) number (now (line .entry)) (shown a) (desk-of (now (session .exit)))) ⌝ }
+    ensures { λ r. ⌜ Cases r (λ a. Replied (desk-of (now (session .entry))) number (now (line .entry)) (shown a) (desk-of (now (session .exit)))) (λ _. Untold (desk-of (now (session .entry))) number (now (line .entry)) (desk-of (now (session .exit)))) ⌝ }
 {
     let words = words(heap, line)?;
     if words.is_empty() {
@@ -136,7 +137,7 @@ pub fn do_line(
 }
 
 // What is still to be written at the sheet's end.
-pub fn last_words(session: &mut Session, heap: Global) -> Result<String, AllocError>
+pub(crate) fn last_words(session: &mut Session, heap: Global) -> Result<String, AllocError>
     ensures text { λ r. ⌜ made r (λ s. string-bytes s ≡ due-text (closes (desk-of (now (session .entry))) .0)) ⌝ }
     ensures desk { λ _. ⌜ desk-of (now (session .exit)) ≡ closes (desk-of (now (session .entry))) .1 ⌝ }
 {

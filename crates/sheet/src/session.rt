@@ -26,12 +26,12 @@ enum Hall {
 }
 
 #[derive(Drop)]
-pub struct Session {
+pub(crate) struct Session {
     hall: Hall,
 }
 
 impl Session {
-    pub fn new() -> Session
+    pub(crate) fn new() -> Session
         ensures { λ r. ⌜ desk-of r ≡ empty ⌝ }
     {
         Session { hall: Hall::Empty }

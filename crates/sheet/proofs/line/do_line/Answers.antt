@@ -3,11 +3,14 @@ use mathlib.Core.List.{List, []}
 use lib.ListN.{length}
 use borrow.Author.Tests.{true-eqb, false-eqb}
 use Rattle.std.proofs.shelf.Lists.{nil-from-length}
-use Rattle.std.specs.declared.result.Result.the-variants.{Err}
-use Rattle.commands.specs.Answers.{answer}
+use Rattle.std.specs.declared.result.Result.the-variants.{Ok, Err}
+use Rattle.commands.specs.Answers.{answer, asked}
 use Rattle.commands.specs.Commands.{command-of}
 use Rattle.commands.specs.Words.{words-of, bytes}
-use Rattle.sheet.proofs.Replies.{worded-as, same-count, no-words, a-mistake}
+use mathlib.Core.Logic.{inr}
+use Rattle.sheet.specs.Desks.{desk-of}
+use Rattle.sheet.specs.Lines.{shown, Obeyed, Some-obeyed, By-words, Untold}
+use Rattle.sheet.proofs.Replies.{worded-as, same-count, no-words, a-mistake, a-command, each-way}
 use Rattle.sheet.proofs.line.do_line.Needs as need
 
 pub returns-then-is-empty : need.returns-then-is-empty
@@ -26,3 +29,19 @@ returns c =
     a-mistake _ _ _ _ (c .in-Err .mistake)
     (λ none. false-eqb _ 0 (c .if-is-empty .ensures tt) (v .ok .0 ∙ same-count (v .items) (are ∙ none)))
     read (worded-as _ _ _ (c .in-Continue-text .ensures tt))
+
+pub returns-in-Ok : need.returns-in-Ok
+returns-in-Ok c =
+    let v = c .in-Continue-words .words in
+    let are = c .in-Continue-words .ensures tt .are in
+    let d = desk-of (c .args .session .now) in
+    let i = c .args .number in
+    let ws = words-of (c .args .line .now) in
+    let after = desk-of (c .obey .last .session) in
+    let read : command-of ws ≡ Ok (asked (c .in-Ok .command)) =
+    ap command-of (sym are) ∙ ap (λ s. command-of (bytes s)) (sym (c .as-slice .ensures .value)) ∙ sym (c .in-Continue-command .ensures tt) ∙ ap answer (c .in-Ok .is) in
+    let some : ws ≡ [] → ⊥ = λ none. false-eqb _ 0 (c .if-is-empty .ensures tt) (v .ok .0 ∙ same-count (v .items) (are ∙ none)) in
+    each-way (c .obey .result) (λ a. Obeyed d i (asked (c .in-Ok .command)) (shown a) after) (λ a. By-words d i ws (shown a) after) (Some-obeyed d i (asked (c .in-Ok .command)) after) (Untold d i (c .args .line .now) after)
+    (λ a done. a-command d i ws (shown a) (asked (c .in-Ok .command)) after some read done)
+    (λ (reply, done). inr (reply, a-command d i ws reply (asked (c .in-Ok .command)) after some read done))
+    (c .obey .ensures)
