@@ -54,7 +54,7 @@ abbrev pub both-of : Result ℕ Mistake → Result ℕ Mistake → Result (ℕ �
 both-of (Err e) second = Err e
 both-of (Ok m) second = second-of m second
 
--- two numbers: a mistake in the left one comes first
+-- two numbers, or the mistake in one of them
 abbrev pub pair-of : List ℕ → List ℕ → Result (ℕ × ℕ) Mistake
 pair-of left right = both-of (small-of left) (small-of right)
 
@@ -100,7 +100,7 @@ abbrev pub then-ports : Result ℕ Mistake → Result (List ℕ) Mistake → Res
 then-ports (Err e) rest = Err e
 then-ports (Ok p) rest = before p rest
 
--- ports, in order: the leftmost mistake is told
+-- ports, in order, or the mistake in one of them
 abbrev pub ports-of : List (List ℕ) → Result (List ℕ) Mistake
 ports-of [] = Ok []
 ports-of (w ∷ ws) = then-ports (port-of w) (ports-of ws)

@@ -23,7 +23,7 @@ pub enum Command {
     Help,
 }
 
-// Why a line is no command. Of several mistakes in one line the first named here is told, of wrong numbers the leftmost.
+// Why a line is no command. Of several mistakes in one line the first named here is told.
 #[derive(Clone, Copy, PartialEq, Eq)]
 pub enum Mistake {
     // The first word is no command.

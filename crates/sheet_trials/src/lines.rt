@@ -2,7 +2,6 @@
 use commands::command::Command;
 use commands::command::CommandPartialEq;
 use commands::command::Mistake;
-use commands::command::MistakeDisplay;
 use commands::command::MistakePartialEq;
 use commands::command::command_of;
 use commands::number::number;
@@ -76,24 +75,4 @@ fn commands_are_read(rt: LibcRuntime) -> Result<(), Fail> {
     let ports = vec![in heap; 3, 65535]?;
     reads(heap, b"check 3 -", Ok(Command::Check { ports }))?;
     reads(heap, b"help", Ok(Command::Help))
-}
-
-#[test]
-fn mistakes_are_told(rt: LibcRuntime) -> Result<(), Fail> {
-    let heap = rt.alloc();
-    reads(heap, b"# nothing", Err(Mistake::Unknown))?;
-    reads(heap, b"Help", Err(Mistake::Unknown))?;
-    reads(heap, b"complete x rooot", Err(Mistake::Count))?;
-    reads(heap, b"complete x rooot y", Err(Mistake::Root))?;
-    reads(heap, b"complete x root 1", Err(Mistake::Number))?;
-    reads(heap, b"link 1 65536", Err(Mistake::Number))?;
-    reads(heap, b"check 1 +2", Err(Mistake::Number))
-}
-
-#[test]
-fn a_mistake_is_shown(rt: LibcRuntime) -> Result<(), Fail> {
-    check_eq(
-        Mistake::Root.to_string(rt.alloc())?.as_str(),
-        "the word `root` is missing",
-    )
 }

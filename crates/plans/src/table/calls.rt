@@ -9,6 +9,7 @@ ghost use Rattle.plans.specs.Soundness.{table-sound};
 ghost use Rattle.plans.specs.Spans.{span-at, grown};
 ghost use Rattle.plans.specs.Tables.{cabling-of};
 ghost use Rattle.std.specs.Of.Vec.{vec-items, vec-len};
+ghost use Rattle.std.specs.Vec.{refused};
 use super::Link;
 use super::Span;
 use super::Table;
@@ -131,7 +132,8 @@ impl Table {
 
     // Needs no memory: the room for all links was made with the table.
     pub fn link(&mut self, from: u16, to: u16) -> Result<(), DrawFault>
-        ensures { λ r. ⌜ (r, cabling-of (now (self .exit))) ≡ linked (cabling-of (now (self .entry))) from to ⌝ }
+        ensures answer { λ r. ⌜ (r, cabling-of (now (self .exit))) ≡ linked (cabling-of (now (self .entry))) from to ⌝ }
+        ensures same { λ r. ⌜ refused r (λ _. now (self .exit) ≡ now (self .entry)) ⌝ }
     {
         if let Some(fault) = self.link_fault(from, to) {
             return Err(fault);
