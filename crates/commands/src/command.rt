@@ -14,7 +14,7 @@ use std::alloc::Global;
 use std::fmt;
 
 // A port that was written `-` is 65535.
-#[derive(PartialEq, Eq, Drop)]
+#[derive(Drop)]
 pub enum Command {
     Complete { size: u16, root: u16 },
     Table { size: u16, root: u16 },
@@ -24,7 +24,7 @@ pub enum Command {
 }
 
 // Why a line is no command. Of several mistakes in one line the first named here is told.
-#[derive(Clone, Copy, PartialEq, Eq)]
+#[derive(Clone, Copy)]
 pub enum Mistake {
     // The first word is no command.
     Unknown,

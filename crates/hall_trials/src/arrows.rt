@@ -1,7 +1,5 @@
 // Ports from lists and from seeds.
 use model::source::ArrowSource;
-use sources::any::AnySource;
-use sources::any::AnySourceArrows;
 use sources::cap::Cap;
 use sources::cap::CapArrows;
 use sources::filed::Filed;
@@ -26,9 +24,7 @@ fn filed_places(rt: LibcRuntime) -> Result<(), Fail> {
     ] {
         check_eq(filed.port(v, index, 4), port)?;
     }
-    check_eq(filed.depth(), 2)?;
-    check_eq(filed.ports(), &[10, 11, 12])?;
-    check_eq(AnySource::Filed(filed).port(2, 0, 0), Some(12))
+    check_eq(filed.port(2, 0, 0), Some(12))
 }
 
 // The words of seed 0 at vertex 0 are E220A8397B1DCDAF, 6E789E6AA1B965F4 and 06C45D188009454F.
@@ -68,5 +64,5 @@ fn capped_at_two() -> Result<(), Fail> {
     for (index, port) in [(0, Some(3)), (1, Some(0)), (2, None)] {
         check_eq(cap.port(0, index, 4), port)?;
     }
-    check_eq(AnySource::Seeded(cap).port(0, 1, 4), Some(0))
+    check_eq(cap.port(0, 1, 4), Some(0))
 }

@@ -1,4 +1,3 @@
 pub mod Others
 pub mod Spanning
 pub mod Telling
-pub mod Walks

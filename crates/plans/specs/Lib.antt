@@ -4,7 +4,6 @@ pub mod Cablings
 pub mod Completes
 pub mod Leading
 pub mod Limits
-pub mod Marks
 pub mod Others
 pub mod Soundness
 pub mod Spans

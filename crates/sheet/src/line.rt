@@ -20,7 +20,7 @@ use std::alloc::AllocError;
 use std::alloc::Global;
 
 // How a line went.
-#[derive(Clone, Copy, PartialEq, Eq)]
+#[derive(Clone, Copy)]
 pub(crate) enum Outcome {
     Fine,
     Refused,

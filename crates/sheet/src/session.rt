@@ -10,12 +10,12 @@ use model::plan::Plan;
 use model::tree::TreeCheck;
 use plans::any::AnyPlan;
 use plans::any::AnyPlanPlan;
-use plans::check::check_tree;
 use plans::complete::Complete;
 use plans::table::Table;
 use plans::table::TablePlan;
 use std::alloc::Global;
 use std::mem;
+use trees::check::check_tree;
 
 #[derive(Drop)]
 enum Hall {

@@ -31,7 +31,8 @@ fn bad_lines(rt: LibcRuntime) -> Result<(), Fail> {
         ),
         ("check -", "line 6: there is no plan yet\n"),
         ("link 0 1", "line 7: a link follows its table\n"),
-        ("complete 1 root 0", "plan complete 1 root 0\n"),
+        ("complete 01 root 0", "plan complete 1 root 0\n"),
+        ("check - 5 65535", "tree\n"),
     ];
     let sheet = answers_all(rt, &cases, "")?;
     check(!sheet.went_well())

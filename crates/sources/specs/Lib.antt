@@ -1,2 +1,1 @@
-pub mod Anys
 pub mod Lists

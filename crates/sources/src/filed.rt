@@ -29,18 +29,6 @@ impl Filed {
         }
     }
 
-    pub fn depth(&self) -> u16
-        ensures { λ r. ⌜ r ≡ now (self .entry) .depth ⌝ }
-    {
-        self.depth
-    }
-
-    pub fn ports(&self) -> &[u16]
-        ensures { λ r. ⌜ now r ≡ vec-items (now (self .entry) .ports) ⌝ }
-    {
-        self.ports.as_slice()
-    }
-
     // `|` and not `||`: each part may be asked whatever the others say.
     fn lacks_cell(&self, v: u16, index: u16) -> bool
         ensures { λ r. ⌜ r ≡ lacks-cell (now (self .entry) .size) (now (self .entry) .root) (now (self .entry) .depth) v index ⌝ }

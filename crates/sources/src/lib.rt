@@ -1,6 +1,5 @@
-// Arrow sources: ports from a list, ports from a seed, a source down to a depth, and one of either kind.
+// Arrow sources: ports from a list, ports from a seed, and a source down to a depth.
 
-pub mod any;
 pub mod cap;
 pub mod filed;
 pub mod seeded;

@@ -4,7 +4,7 @@ ghost use Prim.Native.Nat.{_<_, _≤_};
 ghost use lib.ListN.{length, replicate};
 ghost use Rattle.std.specs.declared.option.Option.the-variants.{None};
 ghost use Rattle.model.specs.Trees.{tree-check, Tree-law};
-ghost use Rattle.plans.specs.Marks.{Marked, Judged, Finds};
+ghost use Rattle.trees.specs.Marks.{Marked, Judged, Finds};
 use model::fault::DrawFault;
 use model::plan::Plan;
 use model::tree::TreeCheck;

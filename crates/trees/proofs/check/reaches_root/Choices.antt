@@ -1,7 +1,7 @@
 use Prim.Native.Nat.{_≤_}
 use lib.ListN.{length}
-use Rattle.plans.proofs.Walks.{Walking, blanks}
-use Rattle.plans.proofs.check.reaches_root.Given as given
+use Rattle.trees.proofs.Walks.{Walking, blanks}
+use Rattle.trees.proofs.check.reaches_root.Given as given
 
 abbrev pub Inv-loop-here : given.InvT-loop-here
 Inv-loop-here g l = Walking (g .P·Plan .layout (l .plan)) (l .ports) (l .start) (l .marks) (l .here)

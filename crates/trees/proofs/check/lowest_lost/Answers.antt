@@ -1,7 +1,7 @@
 use native.Mathlib.Omega.{arith}
 use borrow.Author.Count.{below-more}
 use Rattle.std.proofs.shelf.Ways.{when-true}
-use Rattle.plans.proofs.check.lowest_lost.Needs as need
+use Rattle.trees.proofs.check.lowest_lost.Needs as need
 
 pub loop-v-again : need.loop-v-again
 loop-v-again g c =

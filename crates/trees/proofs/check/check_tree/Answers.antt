@@ -3,9 +3,9 @@ use native.Mathlib.Omega.{arith}
 use lib.ListN.{length}
 use Rattle.model.specs.Trees.{Tree-law}
 use Rattle.model.proofs.Trees.{tree-law}
-use Rattle.plans.specs.Marks.{Marked}
-use Rattle.plans.proofs.Walks.{unmarked, found-is}
-use Rattle.plans.proofs.check.check_tree.Needs as need
+use Rattle.trees.specs.Marks.{Marked}
+use Rattle.trees.proofs.Walks.{unmarked, found-is}
+use Rattle.trees.proofs.check.check_tree.Needs as need
 
 pub lowest-lost-requires : need.lowest-lost-requires
 lowest-lost-requires g c κs =

@@ -3,10 +3,10 @@ use mathlib.Core.Logic.{inl}
 use native.Mathlib.Omega.{arith}
 use Prim.Native.Nat.{_<_}
 use lib.ListN.{length}
-use Rattle.plans.proofs.Walks.{begins, reached, lost, at-mark, nowhere, walks-on, blanks-fall}
-use Rattle.plans.proofs.check.reaches_root.Given as given
-use Rattle.plans.proofs.check.reaches_root.Needs as need
-use Rattle.plans.proofs.check.reaches_root.Needs.{In-Some-target}
+use Rattle.trees.proofs.Walks.{begins, reached, lost, at-mark, nowhere, walks-on, blanks-fall}
+use Rattle.trees.proofs.check.reaches_root.Given as given
+use Rattle.trees.proofs.check.reaches_root.Needs as need
+use Rattle.trees.proofs.check.reaches_root.Needs.{In-Some-target}
 
 pub loop-here-holds : need.loop-here-holds
 loop-here-holds g c = begins _ _ _ _ (c .pre .within) (c .pre .marked)

@@ -20,7 +20,7 @@ use Rattle.std.specs.declared.result.Result.the-variants.{Ok}
 use Rattle.std.proofs.shelf.Lists.{getD-replicate, getD-past, length-replicate}
 use Rattle.model.proofs.Ways.{same-some, none-some, lead-on, lead-off, lead-along, no-lead, way-more, no-loop}
 use Rattle.model.proofs.Trees.{root-ends, follow-below, tree-law}
-use Rattle.plans.specs.Marks.{Marked, Judged, Finds}
+use Rattle.trees.specs.Marks.{Marked, Judged, Finds}
 
 -- how many vertices have no mark yet
 abbrev pub blanks : List (Option ℕ) → ℕ

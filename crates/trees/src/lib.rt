@@ -1,0 +1,3 @@
+// The check of a tree against any plan.
+
+pub mod check;
