@@ -5,9 +5,12 @@ use lib.Dec.{ltb}
 use Rattle.std.specs.Options.{isSome}
 use Rattle.std.specs.declared.option.Option.{Option}
 use Rattle.std.specs.declared.option.Option.the-variants.{Some, None}
-use Rattle.model.specs.Cycles.{Arrows}
 use Rattle.model.specs.Layouts.{Layout, is-root}
 use Rattle.model.specs.Picks.{then}
+
+-- where the arrow of a vertex at a height leads, if it has one there
+abbrev pub Arrows : Type 0
+Arrows = ℕ → ℕ → Option ℕ
 
 -- an arrow source by its answers: a port, or none, for a vertex, an index and a degree
 abbrev pub Cells : Type 0

@@ -18,13 +18,13 @@ use Rattle.std.proofs.shelf.Elements.{length-each, each-getD}
 use Rattle.std.proofs.shelf.Lists.{length-append, length-replicate, getD-replicate, getD-append-left, getD-append-right, getD-set-same}
 use Rattle.std.proofs.shelf.Maps.{nth-getD}
 use Rattle.std.proofs.shelf.Tests.{cases-lt, cases-bool, ne-eqb, eqb-false, le-leb, lt-leb, leb-false, or-from, or-right, or-parts}
 use Rattle.model.specs.Distinct.{In, Fresh, Distinct}
 use Rattle.model.specs.Filed.{rank, lacks-cell, place, filed-cells}
-use Rattle.model.specs.Fillings.{drained, cell-count, cell-place, vertex-at, bounds, Within-bounds, Filling, Fills, lists-within, fillings}
+use Rattle.theory.specs.Fillings.{drained, cell-count, cell-place, vertex-at, bounds, Within-bounds, Filling, Fills, lists-within, fillings}
 use Rattle.model.specs.Layouts.{Layout, Sound}
 use Rattle.model.specs.Picks.{then}
-use Rattle.model.proofs.Drained.{drained-long, drained-at, rank-below}
-use Rattle.model.proofs.Members.{all-in, all-from-in, in-map, map-in, in-joined, joined-in, in-counting, counting-in, distinct-append, distinct-map, distinct-counting}
+use Rattle.theory.proofs.Drained.{drained-long, drained-at, rank-below}
+use Rattle.theory.proofs.Members.{all-in, all-from-in, in-map, map-in, in-joined, joined-in, in-counting, counting-in, distinct-append, distinct-map, distinct-counting}
 
 -- ---- the list of all
 

@@ -16,26 +16,26 @@ use Rattle.std.specs.declared.option.Option.{Option}
 use Rattle.std.specs.declared.option.Option.the-variants.{Some, None}
 use Rattle.std.specs.declared.result.Result.{Result}
 use Rattle.std.specs.declared.result.Result.the-variants.{Ok, Err}
 use Rattle.model.specs.Arrows.{Cells, sight}
-use Rattle.model.specs.Calls.{Strategy, once-told, After, first-fault, refused, pops-cycle, settles, by-trail, tries, telling, steps, none-open, open-count, stopped, preceded, all-told, runs-on, runs}
-use Rattle.model.specs.Cycles.{flat, among, Cycle, Coloured, coloured, Pops}
+use Rattle.theory.specs.Calls.{Strategy, once-told, After, first-fault, refused, pops-cycle, settles, by-trail, tries, telling, steps, none-open, open-count, stopped, preceded, all-told, runs-on, runs}
+use Rattle.theory.specs.Cycles.{flat, among, Cycle, Coloured, coloured, Pops}
 use Rattle.model.specs.Distinct.{Distinct}
-use Rattle.model.specs.Draws.{no-entry, height-of, is-settled, changed-from, changed, higher, shut, Held, is-of, shown, Trail, trail-on, trail, turned, from-on, record-of}
-use Rattle.model.specs.Ends.{if-some}
+use Rattle.theory.specs.Draws.{no-entry, height-of, is-settled, changed-from, changed, higher, shut, Held, is-of, shown, Trail, trail-on, trail, turned, from-on, record-of}
+use Rattle.theory.specs.Ends.{if-some}
 use Rattle.model.specs.Layouts.{Layout, Sound}
 use Rattle.model.specs.Orders.{open-marks, Picks-open}
-use Rattle.model.specs.Outcomes.{end-of, Lawful}
+use Rattle.theory.specs.Outcomes.{end-of, Lawful}
 use Rattle.model.specs.declared.draw.Entry.{Entry}
 use Rattle.model.specs.declared.draw.Pop.{Pop}
 use Rattle.model.specs.declared.draw.Stop.{Stop}
 use Rattle.model.specs.declared.draw.Stop.the-variants.{Ended, Spent, Full}
 use Rattle.model.specs.declared.draw.Tried.{Tried}
 use Rattle.model.specs.declared.fault.DrawFault.{DrawFault}
 use Rattle.model.specs.declared.fault.DrawFault.the-variants as fault
-use Rattle.model.proofs.Cycles.{among-here}
-use Rattle.model.proofs.Drawing.{Good, is-of-plan, shown-to, steps-good, round-cycle, pop-pops}
-use Rattle.model.proofs.Outcomes.{pops-few}
-use Rattle.model.proofs.Trails.{Told, Round, Leaves, Closed-under, among-left}
+use Rattle.theory.proofs.Cycles.{among-here}
+use Rattle.theory.proofs.Drawing.{Good, is-of-plan, shown-to, steps-good, round-cycle, pop-pops}
+use Rattle.theory.proofs.Outcomes.{pops-few}
+use Rattle.theory.proofs.Trails.{Told, Round, Leaves, Closed-under, among-left}
 
 -- ---- open vertices
 

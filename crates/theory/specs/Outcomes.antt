@@ -3,13 +3,13 @@ use mathlib.Core.Path.{_≡_}
 use mathlib.Core.Bool.{Bool}
 use mathlib.Core.List.{List, [], _∷_}
 use Prim.Native.Nat.{ℕ, zero, suc, _+_, _*_}
 use Rattle.model.specs.Arrows.{Cells, sight}
-use Rattle.model.specs.Calls.{Strategy}
-use Rattle.model.specs.Cycles.{Heights, flat}
-use Rattle.model.specs.Ends.{End, popped-out}
+use Rattle.theory.specs.Calls.{Strategy}
+use Rattle.theory.specs.Cycles.{Heights, flat}
+use Rattle.theory.specs.Ends.{End, popped-out}
 use Rattle.model.specs.Layouts.{Layout}
 use Rattle.model.specs.Orders.{Picks-open}
 use Rattle.model.specs.declared.draw.Pop.{Pop}
 
 -- the end of a plan and its arrows: no height passes 4,096, so there are no more pops than 4,096 for each vertex
 abbrev pub end-of : Layout → Cells → End

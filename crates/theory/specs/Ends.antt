@@ -7,8 +7,9 @@ use lib.Dec.{eqb, ltb}
 use Rattle.std.specs.Options.{mapped}
 use Rattle.std.specs.declared.option.Option.{Option}
 use Rattle.std.specs.declared.option.Option.the-variants.{Some, None}
-use Rattle.model.specs.Cycles.{Arrows, Heights, seen, among, Cycle, Coloured, coloured, raise}
+use Rattle.model.specs.Arrows.{Arrows}
+use Rattle.theory.specs.Cycles.{Heights, seen, among, Cycle, Coloured, coloured, raise}
 use Rattle.model.specs.Picks.{then, first}
 
 -- the way from u back to v over vertices above v, by at most k arrows: its vertices before v
 abbrev pub closes : (ℕ → Option ℕ) → ℕ → ℕ → ℕ → Option (List ℕ)

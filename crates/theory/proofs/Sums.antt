@@ -10,17 +10,17 @@ use lib.ListN.{length, take, drop}
 use Rattle.std.specs.shelf.Lists.{All}
 use Rattle.std.proofs.shelf.Lists.{length-map, take-at}
 use Rattle.std.proofs.shelf.Tests.{eqb-true, eqb-false, eq-eqb, lt-ltb, le-ltb, ltb-true, ltb-false, cases-bool, both-ways}
-use Rattle.model.specs.Arrows.{Cells, sight}
-use Rattle.model.specs.Cycles.{Arrows, Heights, flat, seen, among, Cycle, Coloured, coloured, raise, Pops}
+use Rattle.model.specs.Arrows.{Arrows, Cells, sight}
+use Rattle.theory.specs.Cycles.{Heights, flat, seen, among, Cycle, Coloured, coloured, raise, Pops}
 use Rattle.model.specs.Distinct.{Fresh, Distinct}
-use Rattle.model.specs.Draws.{Held, height-of, record-of}
+use Rattle.theory.specs.Draws.{Held, height-of, record-of}
 use Rattle.model.specs.Layouts.{Layout, Sound}
-use Rattle.model.specs.Outcomes.{sum-below, lengths-of}
+use Rattle.theory.specs.Outcomes.{sum-below, lengths-of}
 use Rattle.model.specs.declared.draw.Pop.{Pop}
-use Rattle.model.proofs.Cycles.{among-all, cycle-distinct}
-use Rattle.model.proofs.Drawing.{Good}
-use Rattle.model.proofs.Ends.{Within, stays, cycle-below}
-use Rattle.model.proofs.Sights.{sight-within}
+use Rattle.theory.proofs.Cycles.{among-all, cycle-distinct}
+use Rattle.theory.proofs.Drawing.{Good}
+use Rattle.theory.proofs.Ends.{Within, stays, cycle-below}
+use Rattle.theory.proofs.Sights.{sight-within}
 
 -- how many numbers below n are among c
 abbrev on-below : List ℕ → ℕ → ℕ

@@ -13,14 +13,14 @@ use Rattle.std.proofs.shelf.Elements.{all-push, all-weaker, all-append}
 use Rattle.std.proofs.shelf.Tests.{eqb-true, eqb-false, eq-eqb, false≢true, cases-bool, cases-lt, both-ways}
 use Rattle.std.specs.declared.option.Option.{Option}
 use Rattle.std.specs.declared.option.Option.the-variants.{Some, None}
-use Rattle.model.specs.Cycles.{among, Cycle}
+use Rattle.theory.specs.Cycles.{among, Cycle}
 use Rattle.model.specs.Distinct.{Fresh, Distinct}
-use Rattle.model.specs.Draws.{Trail, from-on, up-to, trail-on, least, turned}
-use Rattle.model.specs.Ends.{if-some}
+use Rattle.theory.specs.Draws.{Trail, from-on, up-to, trail-on, least, turned}
+use Rattle.theory.specs.Ends.{if-some}
 use Rattle.model.specs.Ways.{Way, Leads}
-use Rattle.model.proofs.Cycles.{among-here, among-later, among-cases, among-all, all-among, way-rest, way-next}
+use Rattle.theory.proofs.Cycles.{among-here, among-later, among-cases, among-all, all-among, way-rest, way-next}
 use Rattle.model.proofs.Pigeons.{pigeons}
 use Rattle.model.proofs.Ways.{way-more, way-join, none-some}
 
 -- ---- lists
 

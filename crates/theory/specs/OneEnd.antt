@@ -10,24 +10,24 @@ use Rattle.std.specs.shelf.Lists.{countBy}
 use Rattle.std.specs.shelf.Sorted.{Shuffled}
 use Rattle.std.specs.declared.result.Result.{Result}
 use Rattle.std.specs.declared.result.Result.the-variants.{Ok}
 use Rattle.model.specs.Arrows.{Cells, visible, sight, is-dry}
-use Rattle.model.specs.Calls.{Strategy, Call, run, does, worked, popped-by, start, none-open, first-fault}
-use Rattle.model.specs.Cycles.{Heights, flat, Coloured, Final}
+use Rattle.theory.specs.Calls.{Strategy, Call, run, does, worked, popped-by, start, none-open, first-fault}
+use Rattle.theory.specs.Cycles.{Heights, flat, Coloured, Final}
 use Rattle.model.specs.Distinct.{In, Distinct}
-use Rattle.model.specs.Draws.{Held, height-of, record-of}
-use Rattle.model.specs.Endings.{ports-at, lowest-dry, dry-fault, written, trees}
-use Rattle.model.specs.Ends.{Lowest-pops}
-use Rattle.model.specs.Fillings.{drained, Fills, fillings}
+use Rattle.theory.specs.Draws.{Held, height-of, record-of}
+use Rattle.theory.specs.Endings.{ports-at, lowest-dry, dry-fault, written, trees}
+use Rattle.theory.specs.Ends.{Lowest-pops}
+use Rattle.theory.specs.Fillings.{drained, Fills, fillings}
 use Rattle.model.specs.Layouts.{Layout, Sound}
-use Rattle.model.specs.Outcomes.{end-of, sum-below, lengths-of, Lawful}
+use Rattle.theory.specs.Outcomes.{end-of, sum-below, lengths-of, Lawful}
 use Rattle.model.specs.Picks.{passes}
-use Rattle.model.specs.Reseats.{cells-of, reseated, Shows}
+use Rattle.theory.specs.Reseats.{cells-of, reseated, Shows}
 use Rattle.model.specs.Trees.{tree-check}
 use Rattle.model.specs.declared.draw.Pop.{Pop}
 use Rattle.model.specs.declared.draw.Stop.the-variants.{Ended}
 use Rattle.model.specs.declared.fault.DrawFault.{DrawFault}
 use Rattle.model.specs.declared.fault.DrawFault.the-variants as fault
 use Rattle.model.specs.declared.tree.TreeCheck.the-variants.{Tree}
 
 -- no vertex is open
 abbrev pub Over : Held → Type 0

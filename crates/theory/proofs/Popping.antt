@@ -9,9 +9,10 @@ use Rattle.std.specs.shelf.Lists.{All}
 use Rattle.std.specs.shelf.Sorted.{Shuffled}
 use Rattle.std.proofs.shelf.Elements.{all-weaker}
 use Rattle.std.proofs.shelf.Sorted.{shuffled-refl, shuffled-cons, shuffled-trans, shuffled-swap}
-use Rattle.model.specs.Cycles.{Arrows, Heights, seen, Cycle, Coloured, coloured, raise, Pops, Final}
+use Rattle.model.specs.Arrows.{Arrows}
+use Rattle.theory.specs.Cycles.{Heights, seen, Cycle, Coloured, coloured, raise, Pops, Final}
 use Rattle.model.specs.Distinct.{Distinct}
-use Rattle.model.proofs.Cycles.{among-here, raise-on, raise-up, Apart, apart-sym, same-or-apart, cycle-kept, colours-kept, raise-comm}
+use Rattle.theory.proofs.Cycles.{among-here, raise-on, raise-up, Apart, apart-sym, same-or-apart, cycle-kept, colours-kept, raise-comm}
 
 pub swap-heads : {X : Type 0} (a b : X) (xs : List X) → Shuffled (a ∷ b ∷ xs) (b ∷ a ∷ xs)
 swap-heads a b xs = shuffled-swap (a ∷ b ∷ xs) (b ∷ a ∷ xs) 0 1 (omega arith) (omega arith) refl

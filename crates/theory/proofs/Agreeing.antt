@@ -3,13 +3,14 @@ use mathlib.Core.Path.{_≡_}
 use mathlib.Core.List.{List, [], _∷_}
 use Prim.Native.Nat.{ℕ, suc, _<_, _≤_}
 use native.Mathlib.Omega.{arith}
-use Rattle.model.specs.Cycles.{Arrows, Heights, seen, Cycle, Coloured, raise, Pops}
+use Rattle.model.specs.Arrows.{Arrows}
+use Rattle.theory.specs.Cycles.{Heights, seen, Cycle, Coloured, raise, Pops}
 use Rattle.model.specs.Layouts.{Layout, Sound}
 use Rattle.model.specs.Trees.{follow, Is-tree}
-use Rattle.model.proofs.Cycles.{cycle-same, raise-on, raise-up}
-use Rattle.model.proofs.Ends.{Stays, cycle-below}
+use Rattle.theory.proofs.Cycles.{cycle-same, raise-on, raise-up}
+use Rattle.theory.proofs.Ends.{Stays, cycle-below}
 use Rattle.model.proofs.Trees.{root-ends, follow-below, follow-from}
 use Rattle.model.proofs.Ways.{no-loop}
 
 -- pops only raise
 pops-up : (arrows : Arrows) (h : Heights) (ks : List Coloured) (h2 : Heights) → Pops arrows h ks h2 → (v : ℕ) → h v ≤ h2 v

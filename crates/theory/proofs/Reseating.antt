@@ -15,23 +15,23 @@ use Rattle.std.proofs.shelf.Lists.{ext-getD}
 use Rattle.std.proofs.shelf.Tests.{cases-eq, cases-lt, eqb-true, eqb-false, eq-eqb, ne-eqb, not-false, not-true, not-from-false, both-ways, cases-bool}
 use Rattle.std.specs.declared.option.Option.{Option}
 use Rattle.std.specs.declared.option.Option.the-variants.{Some, None}
 use Rattle.model.specs.Arrows.{Cells, counts, visible, sight}
-use Rattle.model.specs.Cycles.{Heights, flat, seen, Cycle, Coloured, Pops, Final}
+use Rattle.theory.specs.Cycles.{Heights, flat, seen, Cycle, Coloured, Pops, Final}
 use Rattle.model.specs.Distinct.{In, Fresh, Distinct}
 use Rattle.model.specs.Filed.{filed-cells}
-use Rattle.model.specs.Fillings.{drained, cell-place, Filling}
+use Rattle.theory.specs.Fillings.{drained, cell-place, Filling}
 use Rattle.model.specs.Layouts.{Layout, Sound, is-root}
-use Rattle.model.specs.Outcomes.{end-of}
+use Rattle.theory.specs.Outcomes.{end-of}
 use Rattle.model.specs.Picks.{then}
-use Rattle.model.specs.Reseats.{cells-of, seats, reseated, Shows}
+use Rattle.theory.specs.Reseats.{cells-of, seats, reseated, Shows}
 use Rattle.model.specs.Trees.{follow, Reaches, Is-tree}
 use Rattle.model.specs.Ways.{Leads}
-use Rattle.model.proofs.Agreeing.{pops-agree, tree-no-cycle}
-use Rattle.model.proofs.Fillings.{place-inside, cell-port, cell-past, same-place, replaced-filling, replaced-here, replaced-other}
-use Rattle.model.proofs.Outcomes.{to-end}
-use Rattle.model.proofs.Members.{in-kept, kept-in, in-counting, counting-in, distinct-kept, distinct-counting}
-use Rattle.model.proofs.Sights.{visible-some, visible-cell, sight-within}
+use Rattle.theory.proofs.Agreeing.{pops-agree, tree-no-cycle}
+use Rattle.theory.proofs.Fillings.{place-inside, cell-port, cell-past, same-place, replaced-filling, replaced-here, replaced-other}
+use Rattle.theory.proofs.Outcomes.{to-end}
+use Rattle.theory.proofs.Members.{in-kept, kept-in, in-counting, counting-in, distinct-kept, distinct-counting}
+use Rattle.theory.proofs.Sights.{visible-some, visible-cell, sight-within}
 use Rattle.model.proofs.Ways.{none-some, same-some, no-lead}
 
 -- a member that is fresh is none
 fresh-in : {X : Type 0} (x : X) (xs : List X) → Fresh x xs → In x xs → ⊥

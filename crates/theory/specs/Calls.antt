@@ -11,21 +11,21 @@ use Rattle.std.specs.declared.option.Option.{Option}
 use Rattle.std.specs.declared.option.Option.the-variants.{Some, None}
 use Rattle.std.specs.declared.result.Result.{Result}
 use Rattle.std.specs.declared.result.Result.the-variants.{Ok, Err}
 use Rattle.model.specs.Arrows.{Cells}
-use Rattle.model.specs.Cycles.{Coloured, coloured}
-use Rattle.model.specs.Draws.{State, Held, Trail, opened, is-of, is-settled, height-of, trail, turned, changed, higher, shut, record-of}
-use Rattle.model.specs.Ends.{if-some}
+use Rattle.theory.specs.Cycles.{Coloured, coloured}
+use Rattle.theory.specs.Draws.{State, Held, Trail, opened, is-of, is-settled, height-of, trail, turned, changed, higher, shut, record-of}
+use Rattle.theory.specs.Ends.{if-some}
 use Rattle.model.specs.Layouts.{Layout}
 use Rattle.model.specs.Orders.{open-marks}
 use Rattle.model.specs.Picks.{lowest}
 use Rattle.model.specs.declared.draw.Entry.{Entry}
 use Rattle.model.specs.declared.draw.Pop.{Pop}
 use Rattle.model.specs.declared.draw.Stop.{Stop}
 use Rattle.model.specs.declared.draw.Stop.the-variants.{Ended, Spent, Full}
 use Rattle.model.specs.declared.draw.Tried.{Tried}
 use Rattle.model.specs.declared.draw.Tried.the-variants.{Popped, Settled}
 use Rattle.model.specs.declared.fault.DrawFault.{DrawFault}
 use Rattle.model.specs.declared.fault.DrawFault.the-variants as fault
 
 -- what an order does from some value on: given the vertices that it was told since, in turn, and the open marks now, its pick
 abbrev pub Strategy : Type 0

@@ -6,11 +6,8 @@ use Prim.Native.Nat.{ℕ, suc, _<_, _≤_}
 use lib.Dec.{eqb}
 use Rattle.std.specs.shelf.Lists.{All}
 use Rattle.std.specs.declared.option.Option.{Option}
+use Rattle.model.specs.Arrows.{Arrows}
 use Rattle.model.specs.Ways.{Way}
-
--- where the arrow of a vertex at a height leads, if it has one there
-abbrev pub Arrows : Type 0
-Arrows = ℕ → ℕ → Option ℕ
 
 -- the height of each vertex
 abbrev pub Heights : Type 0

@@ -5,11 +5,11 @@ use mathlib.Core.List.{List, [], _∷_}
 use Prim.Native.Nat.{ℕ, _<_}
 use lib.ListN.{getD, set}
 use Rattle.std.specs.declared.option.Option.the-variants.{Some}
 use Rattle.model.specs.Arrows.{Cells, visible}
-use Rattle.model.specs.Cycles.{Heights}
+use Rattle.theory.specs.Cycles.{Heights}
 use Rattle.model.specs.Filed.{filed-cells}
-use Rattle.model.specs.Fillings.{drained, cell-place}
+use Rattle.theory.specs.Fillings.{drained, cell-place}
 use Rattle.model.specs.Layouts.{Layout, is-root}
 
 -- the arrows of a filed list on a plan
 abbrev pub cells-of : Layout → ℕ → List ℕ → Cells

@@ -17,30 +17,30 @@ use Rattle.std.specs.declared.option.Option.{Option}
 use Rattle.std.specs.declared.option.Option.the-variants.{Some, None}
 use Rattle.std.specs.declared.result.Result.{Result}
 use Rattle.std.specs.declared.result.Result.the-variants.{Ok, Err}
-use Rattle.model.specs.Arrows.{Cells, counts, sight}
-use Rattle.model.specs.Calls.{Strategy, After, first-fault, refused, pops-cycle, settles, by-trail, tries, telling, steps, none-open, stopped, preceded, all-told, runs-on, runs, Call, try-at, step, run, does, worked, popped-by, start}
-use Rattle.model.specs.Cycles.{Arrows, Heights, flat, seen, among, Cycle, Coloured, coloured, raise, Pops, Final}
+use Rattle.model.specs.Arrows.{Arrows, Cells, counts, sight}
+use Rattle.theory.specs.Calls.{Strategy, After, first-fault, refused, pops-cycle, settles, by-trail, tries, telling, steps, none-open, stopped, preceded, all-told, runs-on, runs, Call, try-at, step, run, does, worked, popped-by, start}
+use Rattle.theory.specs.Cycles.{Heights, flat, seen, among, Cycle, Coloured, coloured, raise, Pops, Final}
 use Rattle.model.specs.Distinct.{Distinct}
-use Rattle.model.specs.Draws.{no-entry, height-of, is-settled, changed, higher, shut, State, Held, opened, is-of, shown, Trail, trail, turned, record-of}
-use Rattle.model.specs.Ends.{if-some}
+use Rattle.theory.specs.Draws.{no-entry, height-of, is-settled, changed, higher, shut, State, Held, opened, is-of, shown, Trail, trail, turned, record-of}
+use Rattle.theory.specs.Ends.{if-some}
 use Rattle.model.specs.Layouts.{Layout, Sound, is-root}
 use Rattle.model.specs.Orders.{open-marks}
 use Rattle.model.specs.Picks.{then}
 use Rattle.model.specs.Ways.{Way, Leads}
 use Rattle.model.specs.declared.draw.Entry.{Entry}
 use Rattle.model.specs.declared.draw.Pop.{Pop}
 use Rattle.model.specs.declared.draw.Tried.{Tried}
 use Rattle.model.specs.declared.draw.Stop.{Stop}
 use Rattle.model.specs.declared.draw.Stop.the-variants.{Ended, Spent, Full}
 use Rattle.model.specs.declared.fault.DrawFault.{DrawFault}
 use Rattle.model.specs.declared.fault.DrawFault.the-variants as fault
-use Rattle.model.proofs.Cycles.{among-here, among-cases, among-all, all-among, way-rest, cycle-next, cycle-stays, cycle-same, raise-off}
-use Rattle.model.proofs.Ends.{Stays, Within, cycle-below, stays}
-use Rattle.model.proofs.Entries.{length-changed, raised-heights, settled-marks, raised-marks, settled-heights, opened-long, opened-heights, opened-marks, opened-past}
-use Rattle.model.proofs.Popping.{pops-join}
-use Rattle.model.proofs.Sights.{sight-within, visible-some, then-some}
-use Rattle.model.proofs.Trails.{Told, Round, Leaves, Closed-under, turned-among, turned-cycle, told}
+use Rattle.theory.proofs.Cycles.{among-here, among-cases, among-all, all-among, way-rest, cycle-next, cycle-stays, cycle-same, raise-off}
+use Rattle.theory.proofs.Ends.{Stays, Within, cycle-below, stays}
+use Rattle.theory.proofs.Entries.{length-changed, raised-heights, settled-marks, raised-marks, settled-heights, opened-long, opened-heights, opened-marks, opened-past}
+use Rattle.theory.proofs.Popping.{pops-join}
+use Rattle.theory.proofs.Sights.{sight-within, visible-some, then-some}
+use Rattle.theory.proofs.Trails.{Told, Round, Leaves, Closed-under, turned-among, turned-cycle, told}
 use Rattle.model.proofs.Ways.{none-some}
 
 -- every vertex of a cycle has an arrow, and from each the arrows lead to each
 cycle-arrow : (f : ℕ → Option ℕ) (c : List ℕ) (x : ℕ) → Cycle f c → among x c ≡ true → (y : ℕ) × (f x ≡ Some y)

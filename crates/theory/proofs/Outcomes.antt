@@ -12,20 +12,20 @@ use Rattle.std.specs.shelf.Sorted.{Shuffled}
 use Rattle.std.proofs.shelf.Lists.{length-map, take-at}
 use Rattle.std.proofs.shelf.Sorted.{shuffled-trans, shuffled-sym, length-shuffled}
 use Rattle.std.proofs.shelf.Tests.{cases-bool}
-use Rattle.model.specs.Arrows.{Cells, sight}
-use Rattle.model.specs.Calls.{Call, worked, popped-by, none-open, start}
-use Rattle.model.specs.Cycles.{Arrows, Heights, flat, seen, among, Cycle, Coloured, coloured, raise, Pops, Final}
+use Rattle.model.specs.Arrows.{Arrows, Cells, sight}
+use Rattle.theory.specs.Calls.{Call, worked, popped-by, none-open, start}
+use Rattle.theory.specs.Cycles.{Heights, flat, seen, among, Cycle, Coloured, coloured, raise, Pops, Final}
 use Rattle.model.specs.Distinct.{Distinct}
-use Rattle.model.specs.Draws.{Held, height-of, record-of}
-use Rattle.model.specs.Ends.{End, popped-out, Lowest-pops}
+use Rattle.theory.specs.Draws.{Held, height-of, record-of}
+use Rattle.theory.specs.Ends.{End, popped-out, Lowest-pops}
 use Rattle.model.specs.Layouts.{Layout, Sound}
-use Rattle.model.specs.Outcomes.{end-of, sum-below, lengths-of}
+use Rattle.theory.specs.Outcomes.{end-of, sum-below, lengths-of}
 use Rattle.model.specs.declared.draw.Pop.{Pop}
-use Rattle.model.proofs.Cycles.{cycle-distinct}
-use Rattle.model.proofs.Drawing.{Good, calls-good, ended-final}
-use Rattle.model.proofs.Ends.{Within, room, popped-out-law, end-one, lowest-pops, stays, cycle-below}
-use Rattle.model.proofs.Popping.{abelian, none-left, pops-distinct}
-use Rattle.model.proofs.Sights.{sight-within}
+use Rattle.theory.proofs.Cycles.{cycle-distinct}
+use Rattle.theory.proofs.Drawing.{Good, calls-good, ended-final}
+use Rattle.theory.proofs.Ends.{Within, room, popped-out-law, end-one, lowest-pops, stays, cycle-below}
+use Rattle.theory.proofs.Popping.{abelian, none-left, pops-distinct}
+use Rattle.theory.proofs.Sights.{sight-within}
 
 room-flat : (top n : ℕ) → room top flat n ≡ n * top
 room-flat top zero = sym (zero-mul top)

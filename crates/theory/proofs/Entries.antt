@@ -12,11 +12,11 @@ use Rattle.std.specs.shelf.Lists.{All}
 use Rattle.std.proofs.shelf.Counted.{length-map-counting, getD-map-counting}
 use Rattle.std.proofs.shelf.Lists.{getD-past}
 use Rattle.std.proofs.shelf.Tests.{cases-lt, cases-bool, eqb-true, eqb-false, eq-eqb}
-use Rattle.model.specs.Cycles.{among, raise, flat, Heights}
-use Rattle.model.specs.Draws.{no-entry, height-of, is-settled, changed-from, changed, higher, shut, opened}
+use Rattle.theory.specs.Cycles.{among, raise, flat, Heights}
+use Rattle.theory.specs.Draws.{no-entry, height-of, is-settled, changed-from, changed, higher, shut, opened}
 use Rattle.model.specs.Layouts.{Layout, is-root}
 use Rattle.model.specs.declared.draw.Entry.{Entry}
-use Rattle.model.proofs.Cycles.{among-all, raise-off}
+use Rattle.theory.proofs.Cycles.{among-all, raise-off}
 
 module _ (f : Entry → Entry) (c : List ℕ) where
   changed-long : (i : ℕ) (es : List Entry) → length (changed-from f c i es) ≡ length es

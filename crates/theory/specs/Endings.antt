@@ -10,15 +10,15 @@ use Rattle.std.specs.declared.option.Option.{Option}
 use Rattle.std.specs.declared.option.Option.the-variants.{Some, None}
 use Rattle.std.specs.declared.result.Result.{Result}
 use Rattle.std.specs.declared.result.Result.the-variants.{Ok, Err}
 use Rattle.model.specs.Arrows.{Cells, visible, is-dry}
-use Rattle.model.specs.Calls.{first-fault, none-open}
-use Rattle.model.specs.Cycles.{Heights}
-use Rattle.model.specs.Draws.{State, is-of, height-of}
-use Rattle.model.specs.Ends.{if-some}
+use Rattle.theory.specs.Calls.{first-fault, none-open}
+use Rattle.theory.specs.Cycles.{Heights}
+use Rattle.theory.specs.Draws.{State, is-of, height-of}
+use Rattle.theory.specs.Ends.{if-some}
 use Rattle.model.specs.Layouts.{Layout}
 use Rattle.model.specs.Picks.{lowest}
 use Rattle.model.specs.declared.fault.DrawFault.{DrawFault}
 use Rattle.model.specs.declared.fault.DrawFault.the-variants as fault
 
 -- the visible port of each vertex at the heights, 65,535 where there is none, as at the root
 abbrev pub ports-at : Layout → Cells → Heights → List ℕ

@@ -10,16 +10,16 @@ use Rattle.std.specs.declared.option.Option.{Option}
 use Rattle.std.specs.declared.option.Option.the-variants.{Some, None}
 use Rattle.std.specs.declared.result.Result.{Result}
 use Rattle.std.specs.declared.result.Result.the-variants.{Ok, Err}
 use Rattle.model.specs.Arrows.{Cells, sight}
-use Rattle.model.specs.Cycles.{Heights, seen, among, Coloured, coloured}
-use Rattle.model.specs.Ends.{if-some}
+use Rattle.theory.specs.Cycles.{Heights, seen, among, Coloured, coloured}
+use Rattle.theory.specs.Ends.{if-some}
 use Rattle.model.specs.Layouts.{Layout, is-root}
 use Rattle.model.specs.declared.draw.Entry.{Entry}
 use Rattle.model.specs.declared.draw.Pop.{Pop}
 use Rattle.model.specs.declared.draw.Tried.{Tried}
 use Rattle.model.specs.declared.draw.Tried.the-variants.{Popped, Settled}
 use Rattle.model.specs.declared.fault.DrawFault.{DrawFault}
 use Rattle.model.specs.declared.fault.DrawFault.the-variants as fault
 
 -- ---- entries
 

@@ -16,32 +16,32 @@ use Rattle.std.proofs.shelf.Tests.{eqb-true, eq-eqb, eqb-false, and-parts, and-
 use Rattle.std.specs.declared.option.Option.{Option}
 use Rattle.std.specs.declared.option.Option.the-variants.{Some, None}
 use Rattle.std.specs.declared.result.Result.{Result}
 use Rattle.model.specs.Arrows.{Cells, visible, sight, is-dry}
-use Rattle.model.specs.Calls.{Strategy, Call, run, does, worked, popped-by, start, none-open, first-fault}
-use Rattle.model.specs.Cycles.{Heights, flat, Coloured, Pops}
+use Rattle.theory.specs.Calls.{Strategy, Call, run, does, worked, popped-by, start, none-open, first-fault}
+use Rattle.theory.specs.Cycles.{Heights, flat, Coloured, Pops}
 use Rattle.model.specs.Distinct.{In}
-use Rattle.model.specs.Draws.{Held, is-of, height-of, record-of}
-use Rattle.model.specs.Endings.{ports-at, lowest-dry, dry-fault, written, trees}
-use Rattle.model.specs.Fillings.{drained, Filling, fillings}
+use Rattle.theory.specs.Draws.{Held, is-of, height-of, record-of}
+use Rattle.theory.specs.Endings.{ports-at, lowest-dry, dry-fault, written, trees}
+use Rattle.theory.specs.Fillings.{drained, Filling, fillings}
 use Rattle.model.specs.Layouts.{Layout, Sound, is-root}
-use Rattle.model.specs.OneEnd.{Over, Says-tree, heights-of, end-tree, At-end, Finishes, On-the-way, Agree, Reseats, all-show, ends-in, One-end}
-use Rattle.model.specs.Outcomes.{end-of, Lawful}
+use Rattle.theory.specs.OneEnd.{Over, Says-tree, heights-of, end-tree, At-end, Finishes, On-the-way, Agree, Reseats, all-show, ends-in, One-end}
+use Rattle.theory.specs.Outcomes.{end-of, Lawful}
 use Rattle.model.specs.Picks.{passes, lowest}
-use Rattle.model.specs.Reseats.{cells-of, reseated, Shows}
+use Rattle.theory.specs.Reseats.{cells-of, reseated, Shows}
 use Rattle.model.specs.Trees.{Is-tree}
 use Rattle.model.specs.declared.draw.Pop.{Pop}
 use Rattle.model.specs.declared.fault.DrawFault.{DrawFault}
 use Rattle.model.specs.declared.fault.DrawFault.the-variants as fault
-use Rattle.model.proofs.Counting.{There-and-back, count-same}
-use Rattle.model.proofs.Drawing.{Good, is-of-plan, calls-good}
-use Rattle.model.proofs.Fillings.{fillings-all, fillings-only, fillings-once, filling-fills, fills-filling}
-use Rattle.model.proofs.Finishing.{runs-finish}
+use Rattle.theory.proofs.Counting.{There-and-back, count-same}
+use Rattle.theory.proofs.Drawing.{Good, is-of-plan, calls-good}
+use Rattle.theory.proofs.Fillings.{fillings-all, fillings-only, fillings-once, filling-fills, fills-filling}
+use Rattle.theory.proofs.Finishing.{runs-finish}
 use Rattle.model.proofs.Lowest.{None-below, Is-lowest, lowest-tells}
-use Rattle.model.proofs.Outcomes.{end-law, end-only, end-pops, pops-among, popped-once, ended-at}
-use Rattle.model.proofs.Reseating.{drained-in, in-drained, reseated-filling, reseated-shows, reseated-end, reseated-back}
-use Rattle.model.proofs.Sums.{lengths-sum}
+use Rattle.theory.proofs.Outcomes.{end-law, end-only, end-pops, pops-among, popped-once, ended-at}
+use Rattle.theory.proofs.Reseating.{drained-in, in-drained, reseated-filling, reseated-shows, reseated-end, reseated-back}
+use Rattle.theory.proofs.Sums.{lengths-sum}
 use Rattle.model.proofs.Trees.{tree-law}
 use Rattle.model.proofs.Ways.{none-some, same-some}
 
 -- ---- once no vertex is open
 

@@ -12,14 +12,15 @@ use Rattle.std.specs.shelf.Lists.{All}
 use Rattle.std.specs.declared.option.Option.{Option}
 use Rattle.std.specs.declared.option.Option.the-variants.{Some, None}
 use Rattle.std.proofs.shelf.Tests.{eqb-true, eq-eqb, ne-eqb, ltb-true, lt-ltb, cases-lt, cases-bool}
 use Rattle.model.specs.Ways.{Way}
-use Rattle.model.specs.Cycles.{Arrows, Heights, seen, among, Cycle, Coloured, coloured, raise, Pops, Final}
-use Rattle.model.specs.Ends.{closes, lowest-cycle, End, noting, if-some, popped-out, Holds-lowest, Lowest-pops}
+use Rattle.model.specs.Arrows.{Arrows}
+use Rattle.theory.specs.Cycles.{Heights, seen, among, Cycle, Coloured, coloured, raise, Pops, Final}
+use Rattle.theory.specs.Ends.{closes, lowest-cycle, End, noting, if-some, popped-out, Holds-lowest, Lowest-pops}
 use Rattle.model.specs.Picks.{then, first}
-use Rattle.model.proofs.Cycles.{among-here, among-all, all-among, cycle-low, cycle-distinct, cycles-meet, raise-on, raise-up}
+use Rattle.theory.proofs.Cycles.{among-here, among-all, all-among, cycle-low, cycle-distinct, cycles-meet, raise-on, raise-up}
 use Rattle.model.proofs.Lowest.{No-answer, Is-first, first-tells}
 use Rattle.model.proofs.Pigeons.{pigeons}
 use Rattle.model.proofs.Ways.{none-some, same-some, way-all}
 
 -- ---- one cycle, found by its lowest vertex
 

@@ -11,10 +11,11 @@ use Rattle.std.proofs.shelf.Elements.{all-weaker}
 use Rattle.std.proofs.shelf.Tests.{eqb-true, eq-eqb, or-cases, or-left, or-right, false≢true, cases-bool, both-ways}
 use Rattle.std.specs.declared.option.Option.{Option}
 use Rattle.std.specs.declared.option.Option.the-variants.{Some, None}
 use Rattle.model.specs.Ways.{Way}
-use Rattle.model.specs.Cycles.{Arrows, Heights, seen, among, Cycle, Coloured, coloured, raise, Pops, Final}
+use Rattle.model.specs.Arrows.{Arrows}
+use Rattle.theory.specs.Cycles.{Heights, seen, among, Cycle, Coloured, coloured, raise, Pops, Final}
 use Rattle.model.specs.Distinct.{Fresh, Distinct}
 use Rattle.model.proofs.Ways.{same-some, way-once, way-distinct}
 
 -- ---- what is among a list
 

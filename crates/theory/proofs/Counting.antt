@@ -9,8 +9,8 @@ use lib.ListN.{length}
 use Rattle.std.specs.shelf.Lists.{All, countBy, kept-by}
 use Rattle.std.proofs.shelf.Lists.{length-map}
 use Rattle.std.proofs.shelf.Sums.{length-kept-by}
 use Rattle.model.specs.Distinct.{In, Fresh, Distinct}
-use Rattle.model.proofs.Members.{all-from-in, map-in, in-kept, kept-in, distinct-kept, distinct-map}
+use Rattle.theory.proofs.Members.{all-from-in, map-in, in-kept, kept-in, distinct-kept, distinct-map}
 
 module _ {X : Type 0} where
   -- the list without what stands where x was found

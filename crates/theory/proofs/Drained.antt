@@ -11,9 +11,9 @@ use Rattle.std.specs.Iters.{counting}
 use Rattle.std.specs.shelf.Lists.{kept-by}
 use Rattle.std.proofs.shelf.Counted.{length-counting, getD-counting}
 use Rattle.std.proofs.shelf.Tests.{cases-lt, cases-eq, eq-eqb, ne-eqb, lt-ltb, le-ltb}
 use Rattle.model.specs.Filed.{rank}
-use Rattle.model.specs.Fillings.{drained}
+use Rattle.theory.specs.Fillings.{drained}
 use Rattle.model.specs.Layouts.{Layout, Sound}
 
 module _ (r : ℕ) where
   -- n numbers from a on, without the root

@@ -8,12 +8,12 @@ use lib.Dec.{ltb}
 use Rattle.std.specs.declared.option.Option.{Option}
 use Rattle.std.specs.declared.option.Option.the-variants.{Some, None}
 use Rattle.std.proofs.shelf.Tests.{ltb-true, lt-ltb, and-parts, and-from, cases-lt}
 use Rattle.model.specs.Arrows.{Cells, counts, visible, sight}
 use Rattle.model.specs.Layouts.{Layout, Sound, is-root}
 use Rattle.model.specs.Picks.{then}
-use Rattle.model.proofs.Ends.{Within}
+use Rattle.theory.proofs.Ends.{Within}
 use Rattle.model.proofs.Trees.{target-below}
 use Rattle.model.proofs.Ways.{none-some, same-some}
 
 -- what there is goes on from something
 pub then-some : {A B : Type 0} (o : Option A) (f : A → Option B) (y : B) → then o f ≡ Some y → (x : A) × (o ≡ Some x) × (f x ≡ Some y)

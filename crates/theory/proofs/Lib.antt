@@ -1,0 +1,17 @@
+pub mod Agreeing
+pub mod Counting
+pub mod Cycles
+pub mod Drained
+pub mod Drawing
+pub mod Ends
+pub mod Entries
+pub mod Fillings
+pub mod Finishing
+pub mod Members
+pub mod OneEnd
+pub mod Outcomes
+pub mod Popping
+pub mod Reseating
+pub mod Sights
+pub mod Sums
+pub mod Trails

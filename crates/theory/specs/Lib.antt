@@ -1,0 +1,9 @@
+pub mod Calls
+pub mod Cycles
+pub mod Draws
+pub mod Endings
+pub mod Ends
+pub mod Fillings
+pub mod OneEnd
+pub mod Outcomes
+pub mod Reseats
