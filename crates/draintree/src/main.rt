@@ -13,7 +13,7 @@ fn do_sheet(rt: &LibcRuntime, heap: Global) -> Result<bool, AnyError> {
         rt.print(sheet.line(heap, line?.as_slice())?.as_str())?;
     }
     rt.print(sheet.end(heap)?.as_str())?;
-    Ok(sheet.went_well())
+    Ok(sheet.went_well(false))
 }
 
 // Does a single command, and says whether it was done.
@@ -21,7 +21,7 @@ fn do_command(rt: &LibcRuntime, heap: Global, line: &[u8]) -> Result<bool, AnyEr
     let mut sheet = Sheet::new();
     rt.print(sheet.line(heap, line)?.as_str())?;
     rt.print(sheet.end(heap)?.as_str())?;
-    Ok(sheet.was_done())
+    Ok(sheet.went_well(true))
 }
 
 // The words of the command line as one line.

@@ -12,7 +12,12 @@ use std::test::*;
 #[test]
 fn filed_places(rt: LibcRuntime) -> Result<(), Fail> {
     let ports = Vec::from_slice(rt.alloc(), &[10, 11, 12])?;
-    let filed = Filed::new(3, 1, 2, ports);
+    let filed = Filed {
+        size: 3,
+        root: 1,
+        depth: 2,
+        ports,
+    };
     for (v, index, port) in [
         (0, 0, Some(10)),
         (0, 1, Some(11)),
@@ -30,7 +35,7 @@ fn filed_places(rt: LibcRuntime) -> Result<(), Fail> {
 // The words of seed 0 at vertex 0 are E220A8397B1DCDAF, 6E789E6AA1B965F4 and 06C45D188009454F.
 #[test]
 fn seeded_words() -> Result<(), Fail> {
-    let zero = Seeded::new(0);
+    let zero = Seeded { seed: 0 };
     for (index, degree, port) in [
         (0, 4, 3),
         (1, 4, 0),
@@ -46,7 +51,7 @@ fn seeded_words() -> Result<(), Fail> {
 
 #[test]
 fn seeded_limits() -> Result<(), Fail> {
-    let most = Seeded::new(u64::MAX);
+    let most = Seeded { seed: u64::MAX };
     for (v, index, degree, port) in [
         (1023, 4095, 1023, Some(14)),
         (1024, 4095, 1023, None),
@@ -60,7 +65,10 @@ fn seeded_limits() -> Result<(), Fail> {
 
 #[test]
 fn capped_at_two() -> Result<(), Fail> {
-    let cap = Cap::new(2, Seeded::new(0));
+    let cap = Cap {
+        depth: 2,
+        below: Seeded { seed: 0 },
+    };
     for (index, port) in [(0, Some(3)), (1, Some(0)), (2, None)] {
         check_eq(cap.port(0, index, 4), port)?;
     }

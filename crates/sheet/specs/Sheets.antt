@@ -45,20 +45,12 @@ last-text x = due-text (closes (x .desk) .0)
 abbrev pub closed : Progress → Progress
 closed x = record { desk = closes (x .desk) .1; lines = x .lines; worst = x .worst }
 
-abbrev pub is-bad : Outcome → Bool
-is-bad Fine = false
-is-bad Refused = false
-is-bad Bad = true
+-- whether an outcome is good: a bad line never is, and a refusal is unless we are strict
+abbrev pub is-good : Bool → Outcome → Bool
+is-good strict Fine = true
+is-good strict Refused = not strict
+is-good strict Bad = false
 
-abbrev pub is-fine : Outcome → Bool
-is-fine Fine = true
-is-fine Refused = false
-is-fine Bad = false
-
--- there was no bad line
-abbrev pub went-well : Progress → Bool
-went-well x = not (is-bad (x .worst))
-
--- there was neither a bad line nor a refusal
-abbrev pub was-done : Progress → Bool
-was-done x = is-fine (x .worst)
+-- whether every line went well
+abbrev pub went-well : Bool → Progress → Bool
+went-well strict x = is-good strict (x .worst)

@@ -3,7 +3,7 @@ ghost use mathlib.Core.Path.{_≡_};
 ghost use Rattle.std.specs.Of.String.{string-bytes};
 ghost use Rattle.std.specs.Results.{Cases};
 ghost use Rattle.std.specs.Vec.{made};
-ghost use Rattle.sheet.specs.Sheets.{fresh, sheet-of, Took, Lost, last-text, closed, went-well, was-done};
+ghost use Rattle.sheet.specs.Sheets.{fresh, sheet-of, Took, Lost, last-text, closed, went-well};
 use crate::line::Outcome;
 use crate::line::Reply;
 use crate::line::do_line;
@@ -50,23 +50,14 @@ impl Sheet {
         last_words(&mut self.session, heap)
     }
 
-    // Whether there was no bad line. A refusal is an answer like any other.
-    pub fn went_well(&self) -> bool
-        ensures { λ r. ⌜ r ≡ went-well (sheet-of (now (self .entry))) ⌝ }
-    {
-        match self.worst {
-            Outcome::Bad => false,
-            _ => true,
-        }
-    }
-
-    // Whether there was neither a bad line nor a refusal.
-    pub fn was_done(&self) -> bool
-        ensures { λ r. ⌜ r ≡ was-done (sheet-of (now (self .entry))) ⌝ }
+    // Whether there was no bad line. A refusal is an answer like any other, unless `strict`, where it counts too.
+    pub fn went_well(&self, strict: bool) -> bool
+        ensures { λ r. ⌜ r ≡ went-well strict (sheet-of (now (self .entry))) ⌝ }
     {
         match self.worst {
             Outcome::Fine => true,
-            _ => false,
+            Outcome::Refused => !strict,
+            Outcome::Bad => false,
         }
     }
 }

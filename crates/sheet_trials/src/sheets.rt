@@ -35,7 +35,7 @@ fn bad_lines(rt: LibcRuntime) -> Result<(), Fail> {
         ("check - 5 65535", "tree\n"),
     ];
     let sheet = answers_all(rt, &cases, "")?;
-    check(!sheet.went_well())
+    check(!sheet.went_well(false))
 }
 
 #[test]
@@ -50,12 +50,12 @@ fn tables_end(rt: LibcRuntime) -> Result<(), Fail> {
         ("table 1 root 0", ""),
     ];
     let sheet = answers_all(rt, &cases, "plan table 1 root 0 links 0\n")?;
-    check(!sheet.went_well())
+    check(!sheet.went_well(false))
 }
 
 #[test]
 fn refusals_are_answers(rt: LibcRuntime) -> Result<(), Fail> {
     let cases = [("complete 0 root 0", "refused 4 draw 0\n")];
     let sheet = answers_all(rt, &cases, "")?;
-    check(sheet.went_well() && !sheet.was_done())
+    check(sheet.went_well(false) && !sheet.went_well(true))
 }

@@ -3,20 +3,11 @@ ghost use mathlib.Core.Path.{_≡_};
 ghost use Rattle.model.specs.Caps.{capped};
 use model::source::ArrowSource;
 
+// At an index at or above the depth there is no port.
 #[derive(Drop)]
 pub struct Cap<S> {
-    depth: u16,
-    below: S,
-}
-
-impl<S: ArrowSource> Cap<S> {
-    pub fn new(depth: u16, below: S) -> Cap<S>
-        ensures answers { λ r. ⌜ capped (r .depth) (cells (r .below)) ≡ capped depth (cells below) ⌝ }
-        ensures deep { λ r. ⌜ r .depth ≡ depth ⌝ }
-        ensures held { λ r. ⌜ r .below ≡ below ⌝ }
-    {
-        Cap { depth, below }
-    }
+    pub depth: u16,
+    pub below: S,
 }
 
 pub impl<S: ArrowSource> ArrowSource for Cap<S> as CapArrows {

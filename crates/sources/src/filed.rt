@@ -6,29 +6,16 @@ ghost use Rattle.std.specs.Of.Vec.{vec-items};
 ghost use Rattle.std.specs.shelf.Maps.{nth};
 use model::source::ArrowSource;
 
-// The ports stand by rising vertex without the root, then by rising index.
+// The ports stand by rising vertex without the root, then by rising index. Any list will do: where it ends, the cells have no port.
 #[derive(Drop)]
 pub struct Filed {
-    size: u16,
-    root: u16,
-    depth: u16,
-    ports: Vec<u16>,
+    pub size: u16,
+    pub root: u16,
+    pub depth: u16,
+    pub ports: Vec<u16>,
 }
 
 impl Filed {
-    // Takes any list: where it ends, the cells have no port.
-    pub fn new(size: u16, root: u16, depth: u16, ports: Vec<u16>) -> Filed
-        ensures answers { λ r. ⌜ filed-of r ≡ filed-cells size root depth (vec-items ports) ⌝ }
-        ensures held { λ r. ⌜ r ≡ record { size = size; root = root; depth = depth; ports = ports } ⌝ }
-    {
-        Filed {
-            size,
-            root,
-            depth,
-            ports,
-        }
-    }
-
     // `|` and not `||`: each part may be asked whatever the others say.
     fn lacks_cell(&self, v: u16, index: u16) -> bool
         ensures { λ r. ⌜ r ≡ lacks-cell (now (self .entry) .size) (now (self .entry) .root) (now (self .entry) .depth) v index ⌝ }

@@ -12,16 +12,7 @@ const SECOND_FACTOR: u64 = 0x94D0_49BB_1331_11EB;
 // The port at a vertex and an index is the remainder of a word of the generator by the degree.
 #[derive(Clone, Copy)]
 pub struct Seeded {
-    seed: u64,
-}
-
-impl Seeded {
-    pub fn new(seed: u64) -> Seeded
-        ensures answers { λ r. ⌜ seeded-cells (r .seed) ≡ seeded-cells seed ⌝ }
-        ensures held { λ r. ⌜ r .seed ≡ seed ⌝ }
-    {
-        Seeded { seed }
-    }
+    pub seed: u64,
 }
 
 // Outputs count from 1, and each vertex has 4,096 of its own.
