@@ -71,6 +71,10 @@ carried f P on-arrow (v ∷ vs) x (way, low) on px =
     all-along u [] w arrow pu y there = ⊎-elim (λ e. subst P (sym e) pu) (λ never. absurd (false≢true never)) (among-cases y u [] there)
     all-along u (z ∷ zs) w (arrow, rest) pu y there = ⊎-elim (λ e. subst P (sym e) pu) (all-along z zs w rest (on-arrow u z pu arrow) y) (among-cases y u (z ∷ zs) there)
 
+-- the cycle of a trail that came round
+pub round-cycle : (f : ℕ → Option ℕ) (path l : List ℕ) → Round f path l → Cycle f (turned l)
+round-cycle f path l round = subst (λ x. Cycle f (turned x)) (sym (round .is)) (turned-cycle f (round .first) (round .rest) (subst Distinct (round .is) (round .distinct)) (round .way))
+
 module _ (p : Layout) (a : Cells) (sound : Sound p) where
   -- the marks of a draw: an arrow from a settled vertex leads to a settled one, and no cycle holds a settled vertex
   pub record Sane (es : List Entry) : Type 0 where
@@ -213,10 +217,6 @@ module _ (p : Layout) (a : Cells) (sound : Sound p) where
         counted = good .counted;
         listed = good .listed;
       })
-
-  -- the cycle of a trail that came round
-  pub round-cycle : (f : ℕ → Option ℕ) (path l : List ℕ) → Round f path l → Cycle f (turned l)
-  round-cycle f path l round = subst (λ x. Cycle f (turned x)) (sym (round .is)) (turned-cycle f (round .first) (round .rest) (subst Distinct (round .is) (round .distinct)) (round .way))
 
   pub trail-good : (l : List Pop) (h : Held) (cs : List Coloured) → Good l h cs → (t : Trail) → Told (shown p a (h .draw .entries)) (is-settled (h .draw .entries)) (p .size) t → Keeps l cs (by-trail h t)
   trail-good l h cs good t tells = by (t .loop) (tells .ends)

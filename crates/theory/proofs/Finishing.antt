@@ -169,7 +169,7 @@ module _ (p : Layout) (a : Cells) (sound : Sound p) (l : List Pop) (room : lengt
           popped round =
               let c = turned l2 in
               let k = coloured (height-of (h .draw .entries)) c in
-              let cyc = round-cycle p a sound f (t .path) l2 round in
+              let cyc = round-cycle f (t .path) l2 round in
               let whole : Pops (sight p a) flat (cs ++ k ∷ []) (height-of (changed higher c (h .draw .entries))) = pop-pops p a sound l h cs good c cyc in
               let most = pops-few p a sound (cs ++ k ∷ []) (height-of (changed higher c (h .draw .entries))) whole in
               let long : length (cs ++ k ∷ []) ≡ length cs + 1 = length-append cs (k ∷ []) in
