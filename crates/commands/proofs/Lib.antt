@@ -1,1 +1,4 @@
 mod Askings
+mod Cuts
+mod Laws
+mod Readings

@@ -1,4 +1,5 @@
 pub mod Answers
-pub mod Args
 pub mod Commands
+pub mod Numbers
 pub mod Told
+pub mod Words

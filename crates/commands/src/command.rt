@@ -1,16 +1,15 @@
 // What a line of a sheet asks for.
 ghost use Rattle.std.specs.Prelude.{◌≡◌, IfOk, Some};
-ghost use Rattle.commands.specs.Answers.{asked, answer};
-ghost use Rattle.commands.specs.Commands.{alone_of, sized_of, complete_of, table_of, link_of, check_of, filed_of, cells_of, seeded_of, room_of, listed_of, order_of, try_of, run_of, reseat_of, command_of};
+ghost use Rattle.std.specs.Str.{bytes_eq};
+ghost use Rattle.commands.specs.Answers.{answer};
+ghost use Rattle.commands.specs.Commands.{keyword_of, small_of, port_of, pair_of, sized_of, ends_of};
+ghost use Rattle.commands.specs.Commands.{complete_of, table_of, link_of, check_of, help_of, command_of};
 ghost use Rattle.commands.specs.Told.{told};
-ghost use Rattle.tokens.specs.Words.{bytes};
+ghost use Rattle.commands.specs.Words.{bytes};
 
-use crate::args::{Dash, around, is, list, pair, single, small, two};
-use crate::keyword::{Keyword, keyword_of};
+use crate::number::number;
 use std::alloc::{AllocError, Global};
 use std::fmt;
-use tokens::number::number;
-use tokens::seed::seed;
 
 // A port that was written `-` is 65535.
 #[derive(Drop)]
@@ -19,21 +18,6 @@ pub enum Command {
     Table { size: u16, root: u16 },
     Link { from: u16, to: u16 },
     Check { ports: Vec<u16> },
-    Filed { depth: u16, ports: Vec<u16> },
-    Cells { ports: Vec<u16> },
-    Seeded { seed: u64, depth: u16 },
-    Room { records: u16 },
-    Open,
-    Walk,
-    Listed { vertices: Vec<u16> },
-    Try { vertex: u16 },
-    Step,
-    Run { budget: u32 },
-    Heights,
-    OpenVertices,
-    Records,
-    Tree,
-    Reseat { ports: Vec<u16> },
     Help,
 }
 
@@ -46,8 +30,6 @@ pub enum Mistake {
     Count,
     // The word `root` does not stand where it should.
     Root,
-    // The word `depth` does not stand where it should.
-    Depth,
     // A number is none, or too large.
     Number,
 }
@@ -60,7 +42,6 @@ impl Mistake {
             Mistake::Unknown => "no such command",
             Mistake::Count => "wrong number of words",
             Mistake::Root => "the word `root` is missing",
-            Mistake::Depth => "the word `depth` is missing",
             Mistake::Number => "a number is wrong or too large",
         }
     }
@@ -74,14 +55,59 @@ impl fmt::Display for Mistake {
     }
 }
 
-// A command that takes no further words.
-fn alone(args: &[&[u8]], command: Command) -> Result<Command, Mistake>
-    ensures { answer result ≡ alone_of (asked command) (bytes args.now) }
+#[derive(Clone, Copy)]
+enum Keyword {
+    Complete,
+    Table,
+    Link,
+    Check,
+    Help,
+}
+
+// Whether the word is this text, byte for byte.
+fn is(word: &[u8], text: &[u8]) -> bool
+    ensures { result ≡ bytes_eq word.now text.now }
 {
-    if args.is_empty() {
-        Ok(command)
+    word == text
+}
+
+// The command that a first word names.
+fn keyword_of(word: &[u8]) -> Option<Keyword>
+    ensures { result ≡ keyword_of word.now }
+{
+    if is(word, b"complete") {
+        Some(Keyword::Complete)
+    } else if is(word, b"table") {
+        Some(Keyword::Table)
+    } else if is(word, b"link") {
+        Some(Keyword::Link)
+    } else if is(word, b"check") {
+        Some(Keyword::Check)
+    } else if is(word, b"help") {
+        Some(Keyword::Help)
     } else {
-        Err(Mistake::Count)
+        None
+    }
+}
+
+// A vertex, a port or a size.
+fn small(word: &[u8]) -> Result<u16, Mistake>
+    ensures { result ≡ small_of word.now }
+{
+    match number(word, 65535) {
+        Some(n) => Ok(n as u16),
+        None => Err(Mistake::Number),
+    }
+}
+
+// A port, or `-` for the root's.
+fn port(word: &[u8]) -> Result<u16, Mistake>
+    ensures { result ≡ port_of word.now }
+{
+    if is(word, b"-") {
+        Ok(0xFFFF)
+    } else {
+        small(word)
     }
 }
 
@@ -89,8 +115,33 @@ fn alone(args: &[&[u8]], command: Command) -> Result<Command, Mistake>
 fn sized(args: &[&[u8]]) -> Result<(u16, u16), Mistake>
     ensures { result ≡ sized_of (bytes args.now) }
 {
-    let (size, root) = around(args, b"root", Mistake::Root)?;
-    pair(size, root)
+    let [size, word, root] = args else {
+        return Err(Mistake::Count);
+    };
+    if is(word, b"root") {
+        pair(size, root)
+    } else {
+        Err(Mistake::Root)
+    }
+}
+
+// The ends of `A B`.
+fn ends(args: &[&[u8]]) -> Result<(u16, u16), Mistake>
+    ensures { result ≡ ends_of (bytes args.now) }
+{
+    let [left, right] = args else {
+        return Err(Mistake::Count);
+    };
+    pair(left, right)
+}
+
+// Two numbers, the left one first.
+fn pair(left: &[u8], right: &[u8]) -> Result<(u16, u16), Mistake>
+    ensures { result ≡ pair_of left.now right.now }
+{
+    let first = small(left)?;
+    let second = small(right)?;
+    Ok((first, second))
 }
 
 fn complete(args: &[&[u8]]) -> Result<Command, Mistake>
@@ -110,101 +161,30 @@ fn table(args: &[&[u8]]) -> Result<Command, Mistake>
 fn link(args: &[&[u8]]) -> Result<Command, Mistake>
     ensures { answer result ≡ link_of (bytes args.now) }
 {
-    let (left, right) = two(args)?;
-    let (from, to) = pair(left, right)?;
+    let (from, to) = ends(args)?;
     Ok(Command::Link { from, to })
 }
 
 fn check(heap: Global, args: &[&[u8]]) -> Result<Result<Command, Mistake>, AllocError>
     ensures { IfOk result (λ a. answer a ≡ check_of (bytes args.now)) }
 {
-    match list(heap, args, Dash::Allowed)? {
-        Ok(ports) => Ok(Ok(Command::Check { ports })),
-        Err(mistake) => Ok(Err(mistake)),
+    let mut ports = Vec::new(heap);
+    for word in args {
+        match port(word) {
+            Ok(p) => ports.push(p)?,
+            Err(mistake) => return Ok(Err(mistake)),
+        }
     }
+    Ok(Ok(Command::Check { ports }))
 }
 
-fn filed(heap: Global, args: &[&[u8]]) -> Result<Result<Command, Mistake>, AllocError>
-    ensures { IfOk result (λ a. answer a ≡ filed_of (bytes args.now)) }
+fn help(args: &[&[u8]]) -> Result<Command, Mistake>
+    ensures { answer result ≡ help_of (bytes args.now) }
 {
-    let Some((first, cells)) = args.split_first() else {
-        return Ok(Err(Mistake::Count));
-    };
-    let depth = match small(first) {
-        Ok(depth) => depth,
-        Err(mistake) => return Ok(Err(mistake)),
-    };
-    match list(heap, cells, Dash::Refused)? {
-        Ok(ports) => Ok(Ok(Command::Filed { depth, ports })),
-        Err(mistake) => Ok(Err(mistake)),
-    }
-}
-
-fn cells(heap: Global, args: &[&[u8]]) -> Result<Result<Command, Mistake>, AllocError>
-    ensures { IfOk result (λ a. answer a ≡ cells_of (bytes args.now)) }
-{
-    match list(heap, args, Dash::Refused)? {
-        Ok(ports) => Ok(Ok(Command::Cells { ports })),
-        Err(mistake) => Ok(Err(mistake)),
-    }
-}
-
-fn seeded(args: &[&[u8]]) -> Result<Command, Mistake>
-    ensures { answer result ≡ seeded_of (bytes args.now) }
-{
-    let (left, right) = around(args, b"depth", Mistake::Depth)?;
-    let seed = seed(left).ok_or(Mistake::Number)?;
-    let depth = small(right)?;
-    Ok(Command::Seeded { seed, depth })
-}
-
-fn room(args: &[&[u8]]) -> Result<Command, Mistake>
-    ensures { answer result ≡ room_of (bytes args.now) }
-{
-    let records = small(single(args)?)?;
-    Ok(Command::Room { records })
-}
-
-fn listed(heap: Global, args: &[&[u8]]) -> Result<Result<Command, Mistake>, AllocError>
-    ensures { IfOk result (λ a. answer a ≡ listed_of (bytes args.now)) }
-{
-    match list(heap, args, Dash::Refused)? {
-        Ok(vertices) => Ok(Ok(Command::Listed { vertices })),
-        Err(mistake) => Ok(Err(mistake)),
-    }
-}
-
-// A fresh walk, or an order by its vertices.
-fn order(heap: Global, args: &[&[u8]]) -> Result<Result<Command, Mistake>, AllocError>
-    ensures { IfOk result (λ a. answer a ≡ order_of (bytes args.now)) }
-{
-    match args {
-        [] => Ok(Err(Mistake::Count)),
-        [word] if is(word, b"walk") => Ok(Ok(Command::Walk)),
-        _ => listed(heap, args),
-    }
-}
-
-fn try_at(args: &[&[u8]]) -> Result<Command, Mistake>
-    ensures { answer result ≡ try_of (bytes args.now) }
-{
-    let vertex = small(single(args)?)?;
-    Ok(Command::Try { vertex })
-}
-
-fn run(args: &[&[u8]]) -> Result<Command, Mistake>
-    ensures { answer result ≡ run_of (bytes args.now) }
-{
-    let budget = number(single(args)?, u32::MAX).ok_or(Mistake::Number)?;
-    Ok(Command::Run { budget })
-}
-
-fn reseat(heap: Global, args: &[&[u8]]) -> Result<Result<Command, Mistake>, AllocError>
-    ensures { IfOk result (λ a. answer a ≡ reseat_of (bytes args.now)) }
-{
-    match list(heap, args, Dash::Allowed)? {
-        Ok(ports) => Ok(Ok(Command::Reseat { ports })),
-        Err(mistake) => Ok(Err(mistake)),
+    if args.is_empty() {
+        Ok(Command::Help)
+    } else {
+        Err(Mistake::Count)
     }
 }
 
@@ -221,21 +201,7 @@ pub fn command_of(heap: Global, words: &[&[u8]]) -> Result<Result<Command, Mista
         Some(Keyword::Table) => Ok(table(args)),
         Some(Keyword::Link) => Ok(link(args)),
         Some(Keyword::Check) => check(heap, args),
-        Some(Keyword::Filed) => filed(heap, args),
-        Some(Keyword::Cells) => cells(heap, args),
-        Some(Keyword::Seeded) => Ok(seeded(args)),
-        Some(Keyword::Room) => Ok(room(args)),
-        Some(Keyword::Open) => Ok(alone(args, Command::Open)),
-        Some(Keyword::Order) => order(heap, args),
-        Some(Keyword::Try) => Ok(try_at(args)),
-        Some(Keyword::Step) => Ok(alone(args, Command::Step)),
-        Some(Keyword::Run) => Ok(run(args)),
-        Some(Keyword::Heights) => Ok(alone(args, Command::Heights)),
-        Some(Keyword::OpenVertices) => Ok(alone(args, Command::OpenVertices)),
-        Some(Keyword::Records) => Ok(alone(args, Command::Records)),
-        Some(Keyword::Tree) => Ok(alone(args, Command::Tree)),
-        Some(Keyword::Reseat) => reseat(heap, args),
-        Some(Keyword::Help) => Ok(alone(args, Command::Help)),
+        Some(Keyword::Help) => Ok(help(args)),
         None => Ok(Err(Mistake::Unknown)),
     }
 }

@@ -23,7 +23,7 @@ use Rattle.plans.specs.declared.any.AnyPlan.{AnyPlan}
 use Rattle.plans.specs.declared.any.AnyPlan.TheVariants as any
 use Rattle.sources.specs.declared.any.AnyArrows.{AnyArrows}
 use Rattle.sources.specs.declared.any.AnyArrows.TheVariants as source
-use Rattle.commands.specs.Commands as commands
+use Rattle.draw_commands.specs.Commands as commands
 use Rattle.desk.specs.Drawings.{Drawing, drawing_of, Ordering, walk, listed, begun, tried, stepped, ran, heights_shown, open_shown, records_shown, tree_shown}
 use Rattle.session.specs.Said as said
 use Rattle.session.specs.Said.{Said}

@@ -1,15 +1,14 @@
 -- How a line is answered, by its words. Assumes nothing.
-use Rattle.std.proofs.Common.{◌≡◌, ℕ, List, [], ◌∷◌, length, IfOk, Ok, Err, Option, Result, sym, refl, ap, ◌∙◌, subst, arith, Bor, MatchResult}
+use Rattle.std.proofs.Common.{◌≡◌, ℕ, List, [], ◌∷◌, ◌++◌, length, IfOk, Ok, Err, Option, Result, sym, refl, ap, ◌∙◌, subst, arith, Bor, MatchResult}
 use Rattle.commands.specs.Commands.{Asked, command_of}
 use Rattle.commands.specs.Told.{told}
+use Rattle.commands.specs.Words.{bytes}
 use Rattle.commands.specs.declared.command.Mistake.{Mistake}
-use Rattle.session.specs.Desks.{Desk, before, Takes}
-use Rattle.session.specs.Said.{Said}
-use Rattle.session.specs.declared.answer.Due.{Due}
-use Rattle.session.specs.declared.answer.Misplaced.{Misplaced}
-use Rattle.tokens.specs.Words.{bytes}
-use Rattle.sheet.specs.Lines.{reply_of, Obeyed, Answered, ByWords}
+use Rattle.sheet.specs.Desks.{Desk, before, Takes}
+use Rattle.sheet.specs.Lines.{due_text, answered_text, outcome_of, Obeyed, Answered, ByWords}
 use Rattle.sheet.specs.Texts.{line_text}
+use Rattle.sheet.specs.declared.answer.Answer.{Answer}
+use Rattle.sheet.specs.declared.answer.Misplaced.{Misplaced}
 use Rattle.sheet.specs.declared.line.Outcome.{Outcome}
 use Rattle.sheet.specs.declared.line.Outcome.TheVariants.{Fine, Bad}
 
@@ -47,10 +46,10 @@ each_way (Ok x) P R Q S f g p = f x p
 each_way (Err y) P R Q S f g q = g q
 
 -- first what is due, then the command
-pub obeyed : (d d1 after : Desk) (i : ℕ) (c : Asked) (due : Option Due) (r : Result Said Misplaced) → (due, d1) ≡ before c d → Takes d1 i c r after
-    → (reply : List ℕ × Outcome) → reply ≡ reply_of i due r → Obeyed d i c reply after
+pub obeyed : (d d1 after : Desk) (i : ℕ) (c : Asked) (due : Option Answer) (r : Result Answer Misplaced) → (due, d1) ≡ before c d → Takes d1 c r after
+    → (reply : List ℕ × Outcome) → reply ≡ (due_text due ++ answered_text i r, outcome_of r) → Obeyed d i c reply after
 obeyed d d1 after i c due r first takes reply is = record {
   result = r;
-  takes = subst (λ x. Takes x i c r after) (ap (λ x. x.1) first) takes;
-  replies = is ∙ ap (λ x. reply_of i x r) (ap (λ x. x.0) first);
+  takes = subst (λ x. Takes x c r after) (ap (λ x. x.1) first) takes;
+  replies = is ∙ ap (λ x. (due_text x ++ answered_text i r, outcome_of r)) (ap (λ x. x.0) first);
 }

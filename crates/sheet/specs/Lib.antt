@@ -1,3 +1,4 @@
+pub mod Desks
 pub mod Lines
 pub mod Sheets
 pub mod Texts

@@ -1,7 +1,7 @@
 -- A sheet under way, line by line. Assumes nothing.
 use Rattle.std.specs.Prelude.{◌≡◌, ℕ, ◌+◌, ◌-◌, ◌^◌, min, Bool, true, false, not, List}
-use Rattle.session.specs.Desks.{Desk, bare, desk_of, closes}
-use Rattle.sheet.specs.Lines.{worse, due_lines, due_outcome, Replied, Untold}
+use Rattle.sheet.specs.Desks.{Desk, empty, desk_of, closes}
+use Rattle.sheet.specs.Lines.{worse, due_text, Replied, Untold}
 use Rattle.sheet.specs.declared.line.Outcome.{Outcome}
 use Rattle.sheet.specs.declared.line.Outcome.TheVariants.{Fine, Refused, Bad}
 use Rattle.sheet.specs.declared.whole.Sheet.{Sheet}
@@ -16,7 +16,7 @@ abbrev pub sheet_of : Sheet → Progress
 sheet_of s = record { desk = desk_of s.session; lines = s.lines; worst = s.worst }
 
 abbrev pub fresh : Progress
-fresh = record { desk = bare; lines = 0; worst = Fine }
+fresh = record { desk = empty; lines = 0; worst = Fine }
 
 -- the number of the next line: lines are counted from 1, up to the largest number that there is
 abbrev pub next_number : Progress → ℕ
@@ -35,12 +35,12 @@ pub record Lost (x : Progress) (line : List ℕ) (y : Progress) : Type 0 where
   pub counted : y.lines ≡ next_number x
   pub same : y.worst ≡ x.worst
 
--- what is due when there are no more lines, and what is left then; the worst outcome is kept
+-- what is due when there are no more lines, and what is left then
 abbrev pub last_text : Progress → List ℕ
-last_text x = due_lines (closes x.desk).0
+last_text x = due_text (closes x.desk).0
 
 abbrev pub closed : Progress → Progress
-closed x = record { desk = (closes x.desk).1; lines = x.lines; worst = worse x.worst (due_outcome (closes x.desk).0) }
+closed x = record { desk = (closes x.desk).1; lines = x.lines; worst = x.worst }
 
 -- whether an outcome is good: a bad line never is, and a refusal is unless we are strict
 abbrev pub is_good : Bool → Outcome → Bool

@@ -1,6 +1,7 @@
 // Does the commands of a sheet, one after the other, and words the answers.
 
+mod answer;
 mod line;
-mod lists;
+mod session;
 mod text;
 pub mod whole;

@@ -2,8 +2,8 @@
 ghost use Rattle.std.specs.Prelude.{◌≡◌, IfOk, string_bytes, MatchResult};
 ghost use Rattle.sheet.specs.Sheets.{fresh, sheet_of, Took, Lost, last_text, closed, went_well};
 
-use crate::line::{Outcome, Reply, do_line, due_lines, due_outcome};
-use session::session::Session;
+use crate::line::{Outcome, Reply, do_line, last_words};
+use crate::session::Session;
 use std::alloc::{AllocError, Global};
 
 // What the desk has in hand, how many lines there were, and how the worst of them went.
@@ -36,14 +36,12 @@ impl Sheet {
         Ok(text)
     }
 
-    // Words what is still due when there are no more lines, and keeps how it went.
+    // Words what is still due when there are no more lines.
     pub fn end(&mut self, heap: Global) -> Result<String, AllocError>
         ensures text { IfOk result (λ s. string_bytes s ≡ last_text (sheet_of self.old)) }
         ensures after { sheet_of self.new ≡ closed (sheet_of self.old) }
     {
-        let due = self.session.close();
-        self.worst = self.worst.worse(due_outcome(due));
-        due_lines(heap, due)
+        last_words(&mut self.session, heap)
     }
 
     // Whether there was no bad line. A refusal is an answer like any other, unless `strict`, where it counts too.

@@ -57,39 +57,6 @@ fn tables_end(rt: HostRuntime) -> Result<(), Fail> {
 }
 
 #[test]
-fn cells_are_counted(rt: HostRuntime) -> Result<(), Fail> {
-    let cases = [
-        ("filed 2 0", "line 1: there is no plan yet\n"),
-        ("complete 3 root 0", "plan complete 3 root 0\n"),
-        (
-            "cells 0",
-            "line 3: cells follow filed arrows that lack some\n",
-        ),
-        ("open", "line 4: there are no arrows yet\n"),
-        ("filed 2 1 0", ""),
-        ("cells 1 1 1", "line 6: there are too many cells\n"),
-        ("cells 1", ""),
-        (
-            "step",
-            "line 5: there are too few cells\nline 8: there is no draw yet\n",
-        ),
-        ("filed 2", ""),
-        ("cells 1 0 1 1", "arrows filed 2\n"),
-        ("seeded Ff dept 3", "line 11: the word `depth` is missing\n"),
-        ("seeded 0Ff depth 3", "arrows seeded ff depth 3\n"),
-        ("open", "opened 3 root 0\n"),
-        (
-            "reseat - 0 0",
-            "line 14: only filed arrows can be reseated\n",
-        ),
-        ("filed 2 0", ""),
-    ];
-    let sheet = answers_all(rt, &cases, "line 15: there are too few cells\n")?;
-    assert!(rt; !sheet.went_well(false));
-    Ok(())
-}
-
-#[test]
 fn refusals_are_answers(rt: HostRuntime) -> Result<(), Fail> {
     let cases = [("complete 0 root 0", "refused 4 draw 0\n")];
     let sheet = answers_all(rt, &cases, "")?;

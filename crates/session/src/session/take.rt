@@ -1,12 +1,12 @@
 // Doing a command.
 ghost use Rattle.std.specs.Prelude.{◌≡◌};
-ghost use Rattle.commands.specs.Answers.{asked};
+ghost use Rattle.draw_commands.specs.Answers.{asked};
 ghost use Rattle.session.specs.Desks.{desk_of, Takes};
 ghost use Rattle.session.specs.Said.{said_so};
 
 use super::Session;
 use crate::answer::{Answer, Misplaced};
-use commands::command::Command;
+use draw_commands::command::Command;
 use orders::any::AnyOrder;
 use orders::filed::FiledOrder;
 use orders::walk::Walk;

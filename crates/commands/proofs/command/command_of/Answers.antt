@@ -2,7 +2,7 @@ use Rattle.std.proofs.Common.{ℕ, List, sym, ap, Bor}
 use Rattle.std.proofs.lemmas.List.{nil_from_length}
 use Rattle.commands.proofs.command.command_of.Goals as goal
 use Rattle.commands.specs.Commands.{command_of}
-use Rattle.tokens.specs.Words.{bytes}
+use Rattle.commands.specs.Words.{bytes}
 
 pub returns-in-default : goal.returns-in-default
 returns-in-default c =

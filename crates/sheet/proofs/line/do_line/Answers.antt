@@ -2,8 +2,8 @@ use Rattle.std.proofs.Common.{◌≡◌, List, [], length, Ok, Err, sym, ap, ◌
 use Rattle.std.proofs.lemmas.List.{nil_from_length}
 use Rattle.commands.specs.Answers.{answer, asked}
 use Rattle.commands.specs.Commands.{command_of}
-use Rattle.tokens.specs.Words.{words_of, bytes}
-use Rattle.session.specs.Desks.{desk_of}
+use Rattle.commands.specs.Words.{words_of, bytes}
+use Rattle.sheet.specs.Desks.{desk_of}
 use Rattle.sheet.specs.Lines.{shown, Obeyed, SomeObeyed, ByWords, Untold}
 use Rattle.sheet.proofs.Replies.{worded_as, same_count, no_words, a_mistake, a_command, each_way}
 use Rattle.sheet.proofs.line.do_line.Goals as goal

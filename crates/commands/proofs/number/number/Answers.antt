@@ -1,0 +1,28 @@
+use Rattle.std.proofs.Common.{◌+◌, ◌<◌, drop, sym, ◌∙◌, arith}
+use Rattle.std.proofs.lemmas.Bool.{eqb-false}
+use Rattle.commands.proofs.Readings.{from_start, one_digit, no_digit, too_large, at_end}
+use Rattle.commands.proofs.number.number.Goals as goal
+
+pub loop-b-init : goal.loop-b-init
+loop-b-init c = (omega arith, from_start _ _ (eqb-false _ 0 (sym c.if-is-empty.ensures)))
+
+pub returns-then-not-is-ascii-digit : goal.returns-then-not-is-ascii-digit
+returns-then-not-is-ascii-digit c =
+    no_digit c.loop-b.value _ c.loop-b.b-index _ c.loop-b-test.true (sym c.if-not-is-ascii-digit.ensures.value) ∙ c.loop-b.invariant.1
+
+pub returns-then-value-limit : goal.returns-then-value-limit
+returns-then-value-limit c =
+    let above : c.args.most < c.one-more-value.result = omega (arith, c.from-limit.ensures) in
+    sym (too_large _ _ (drop (c.loop-b.b-index + 1) c.args.word.now) above)
+    ∙ one_digit c.loop-b.value _ c.loop-b.b-index _ _ c.loop-b-test.true (sym c.if-not-is-ascii-digit.ensures.value) c.one-more-value.ensures
+    ∙ c.loop-b.invariant.1
+
+pub loop-b-preserved : goal.loop-b-preserved
+loop-b-preserved c = (
+  omega (arith, c.from-limit.ensures),
+  one_digit c.loop-b.value _ c.loop-b.b-index _ _ c.loop-b-test.true (sym c.if-not-is-ascii-digit.ensures.value) c.one-more-value.ensures
+      ∙ c.loop-b.invariant.1,
+)
+
+pub returns : goal.returns
+returns c = at_end _ _ c.loop-b.b-index _ c.loop-b.invariant.0 c.loop-b-test.false ∙ c.loop-b.invariant.1

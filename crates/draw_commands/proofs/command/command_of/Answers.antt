@@ -1,0 +1,9 @@
+use Rattle.std.proofs.Common.{ℕ, List, sym, ap, Bor}
+use Rattle.std.proofs.lemmas.List.{nil_from_length}
+use Rattle.draw_commands.proofs.command.command_of.Goals as goal
+use Rattle.draw_commands.specs.Commands.{command_of}
+use Rattle.tokens.specs.Words.{bytes}
+
+pub returns-in-default : goal.returns-in-default
+returns-in-default c =
+    ap (λ (ws : List (Bor (List ℕ))). command_of (bytes ws)) (sym (nil_from_length _ c.in-default.ensures.cases))

@@ -1,0 +1,4 @@
+pub mod Answers
+pub mod Args
+pub mod Commands
+pub mod Told

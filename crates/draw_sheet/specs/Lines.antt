@@ -1,0 +1,95 @@
+-- What a line of a sheet does and writes. Assumes nothing.
+use Rattle.std.specs.Prelude.{◌≡◌, ℕ, ◌⊎◌, List, [], ◌∷◌, ◌++◌, Some, None, Ok, Err, string_bytes, Option, Result}
+use Rattle.tokens.specs.Words.{words_of}
+use Rattle.draw_commands.specs.Commands.{Asked, command_of}
+use Rattle.draw_commands.specs.Told.{told}
+use Rattle.draw_commands.specs.declared.command.Mistake.{Mistake}
+use Rattle.session.specs.Desks.{Desk, before, Takes}
+use Rattle.session.specs.Said as says
+use Rattle.session.specs.Said.{Said}
+use Rattle.session.specs.declared.answer.Due.{Due}
+use Rattle.session.specs.declared.answer.Due.TheVariants.{Table, FewCells}
+use Rattle.session.specs.declared.answer.Misplaced.{Misplaced}
+use Rattle.draw_sheet.specs.Texts.{answer_text, line_text, misplaced_word, due_text}
+use Rattle.draw_sheet.specs.declared.line.Outcome.{Outcome}
+use Rattle.draw_sheet.specs.declared.line.Outcome.TheVariants.{Fine, Refused, Bad}
+use Rattle.draw_sheet.specs.declared.line.Reply.{Reply}
+
+-- the text of a reply, and how the line went
+abbrev pub shown : Reply → List ℕ × Outcome
+shown a = (string_bytes a.text, a.outcome)
+
+-- of two outcomes the worse: a bad line is worse than a refusal
+abbrev pub worse : Outcome → Outcome → Outcome
+worse Fine o = o
+worse Refused Fine = Refused
+worse Refused Refused = Refused
+worse Refused Bad = Bad
+worse Bad o = Bad
+
+-- what is due, if something is
+abbrev pub due_lines : Option Due → List ℕ
+due_lines None = []
+due_lines (Some due) = due_text due
+
+-- how that went: filed arrows that lack cells are bad
+abbrev pub due_outcome : Option Due → Outcome
+due_outcome None = Fine
+due_outcome (Some (Table n r l)) = Fine
+due_outcome (Some (FewCells i)) = Bad
+
+-- what the command at line i is answered with
+abbrev pub answered_text : ℕ → Result Said Misplaced → List ℕ
+answered_text i (Ok a) = answer_text a
+answered_text i (Err m) = line_text i (misplaced_word m)
+
+-- how it went, by its answer
+abbrev pub answer_outcome : Result Said Misplaced → Outcome
+answer_outcome (Ok says.silent) = Fine
+answer_outcome (Ok (says.complete n r)) = Fine
+answer_outcome (Ok (says.checked t)) = Fine
+answer_outcome (Ok (says.filed d)) = Fine
+answer_outcome (Ok (says.seeded s d)) = Fine
+answer_outcome (Ok (says.begun n r)) = Fine
+answer_outcome (Ok (says.tried t)) = Fine
+answer_outcome (Ok (says.ran tries why)) = Fine
+answer_outcome (Ok (says.heights hs)) = Fine
+answer_outcome (Ok (says.open_vertices vs)) = Fine
+answer_outcome (Ok (says.records ps)) = Fine
+answer_outcome (Ok (says.tree ports)) = Fine
+answer_outcome (Ok (says.cells ports)) = Fine
+answer_outcome (Ok (says.refused e)) = Refused
+answer_outcome (Ok says.commands) = Fine
+answer_outcome (Err m) = Bad
+
+-- what line i writes, and how it went: first what is due, then the answer
+abbrev pub reply_of : ℕ → Option Due → Result Said Misplaced → List ℕ × Outcome
+reply_of i due result = (due_lines due ++ answered_text i result, worse (due_outcome due) (answer_outcome result))
+
+-- the command c at line i is done: first what is due, then what it does
+pub record Obeyed (d : Desk) (i : ℕ) (c : Asked) (reply : List ℕ × Outcome) (after : Desk) : Type 0 where
+  pub result : Result Said Misplaced
+  pub takes : Takes (before c d).1 i c result after
+  pub replies : reply ≡ reply_of i (before c d).0 result
+
+-- the command is done, whether its reply could be worded or not
+abbrev pub SomeObeyed : Desk → ℕ → Asked → Desk → Type 0
+SomeObeyed d i c after = (reply : List ℕ × Outcome) × Obeyed d i c reply after
+
+-- the words ask for a command, which is done, or hold a mistake, which is told and changes nothing
+abbrev pub Answered : Desk → ℕ → Result Asked Mistake → List ℕ × Outcome → Desk → Type 0
+Answered d i (Ok c) reply after = Obeyed d i c reply after
+Answered d i (Err m) reply after = (reply ≡ (line_text i (told m), Bad)) × (after ≡ d)
+
+-- a line without words is passed over
+abbrev pub ByWords : Desk → ℕ → List (List ℕ) → List ℕ × Outcome → Desk → Type 0
+ByWords d i [] reply after = (reply ≡ ([], Fine)) × (after ≡ d)
+ByWords d i (w ∷ ws) reply after = Answered d i (command_of (w ∷ ws)) reply after
+
+-- what line i, of these bytes, does and writes
+abbrev pub Replied : Desk → ℕ → List ℕ → List ℕ × Outcome → Desk → Type 0
+Replied d i line reply after = ByWords d i (words_of line) reply after
+
+-- there was no memory for the reply: the line was not done, or it was
+abbrev pub Untold : Desk → ℕ → List ℕ → Desk → Type 0
+Untold d i line after = (after ≡ d) ⊎ ((reply : List ℕ × Outcome) × Replied d i line reply after)

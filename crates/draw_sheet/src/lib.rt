@@ -1,0 +1,6 @@
+// Does the commands of a sheet, one after the other, and words the answers.
+
+mod line;
+mod lists;
+mod text;
+pub mod whole;

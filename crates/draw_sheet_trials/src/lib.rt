@@ -1,0 +1,6 @@
+// Examples and limits of lines and sheets. They stand apart, since a crate with tests is proved twice.
+
+#[cfg(test)]
+mod lines;
+#[cfg(test)]
+mod sheets;
