@@ -55,7 +55,7 @@ module _ (arrow : ℕ → Option ℕ) (n start m : ℕ) (rest : List ℕ) (cyc :
         where
           by : Toward here low gone → (min low next ≡ m) ⊎ Ahead
           by (inl e) = inl (omega (arith, cycle_low arrow m rest next cyc next_on))
-          by (inr ([], last, off, short)) = inl (omega (arith, cycle_low arrow m rest low cyc l.low-on, same_some (arrow here) next m on last))
+          by (inr ([], last, off, short)) = inl (omega (arith, cycle_low arrow m rest low cyc l.low_on, same_some (arrow here) next m on last))
           by (inr (z ∷ zs, (first, way), off, short)) =
               let e : z ≡ next = same_some (arrow here) z next first on in
               inr (zs, subst (λ t. Way arrow t zs m) e way, subst (λ t. among start (t ∷ zs) ≡ false) e off, omega arith)
@@ -67,7 +67,7 @@ module _ (arrow : ℕ → Option ℕ) (n start m : ℕ) (rest : List ℕ) (cyc :
       goes_on = record {
         here_on = next_on;
         low_on = ⊎_elim
-            (λ lt. let e : low ≡ min low next = omega arith in subst (λ t. among t (m ∷ rest) ≡ true) e l.low-on)
+            (λ lt. let e : low ≡ min low next = omega arith in subst (λ t. among t (m ∷ rest) ≡ true) e l.low_on)
             (λ ge. let e : next ≡ min low next = omega arith in subst (λ t. among t (m ∷ rest) ≡ true) e next_on)
             (cases_lt low next);
         toward = ⊎_elim inl (λ (zs, way, off, short). inr (zs, way, (or_parts _ _ off).1, short)) lowered;
