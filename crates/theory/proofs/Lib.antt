@@ -18,4 +18,3 @@ pub mod Sights
 pub mod Sums
 pub mod Trails
 pub mod TryLaw
-pub mod Written
