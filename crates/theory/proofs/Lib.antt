@@ -18,3 +18,4 @@ pub mod Sights
 pub mod Sums
 pub mod Trails
 pub mod TryLaw
+pub mod Written

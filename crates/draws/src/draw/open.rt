@@ -3,7 +3,7 @@ ghost use Rattle.std.specs.Prelude.{◌≡◌, MatchResult};
 ghost use Rattle.model.specs.Arrows.{visible};
 ghost use Rattle.model.specs.declared.fault.DrawFault.TheVariants.{NoMemory};
 ghost use Rattle.theory.specs.Draws.{fresh_entry, height_of, opened, is_of};
-ghost use Rattle.theory.specs.OneEnd.{OneEnd};
+ghost use Rattle.theory.specs.OneEnd.{OneEndByCalls};
 ghost use Rattle.draws.specs.States.{state_of};
 
 use super::Draw;
@@ -42,7 +42,7 @@ impl Draw {
     // Whatever is then done with it, with any plan, arrows, list and orders: it comes to one end, and no tree is favoured.
     pub fn open<P: Plan>(plan: &P, heap: Global) -> Result<Draw, DrawFault>
         ensures fresh { MatchResult result (λ d. state_of d ≡ opened (P.layout plan.now)) (λ e. e ≡ NoMemory) }
-        ensures theorem { OneEnd }
+        ensures theorem { OneEndByCalls }
     {
         let entries = fresh_entries(plan, heap)?;
         Ok(Draw {
