@@ -1,5 +1,5 @@
 -- A way that leaves a mark behind: to meet it again is to have come round, and so is to go as many arrows as there are vertices. Assumes nothing.
-use Rattle.std.proofs.Common.{◌≡◌, ℕ, suc, ◌+◌, ◌<◌, ◌≤◌, ◌⊎◌, List, [], ◌∷◌, ◌++◌, length, Some, None, Option, sym, refl, ap, ◌∙◌, subst, inl, inr, ⊎_elim, arith, length-append}
+use Rattle.std.proofs.Common.{◌≡◌, ℕ, suc, ◌+◌, ◌<◌, ◌≤◌, ◌⊎◌, List, [], ◌∷◌, ◌++◌, length, Some, None, Option, sym, refl, ap, ◌∙◌, subst, inl, inr, arith, length-append}
 use Rattle.model.specs.Ways.{Way, Leads}
 use Rattle.model.proofs.Ways.{way_more}
 use Rattle.theory.specs.Laws.{Loops, Rounds, RunsOut}

@@ -1,4 +1,4 @@
-use Rattle.std.proofs.Common.{◌≡◌, ℕ, ◌+◌, ◌∷◌, vec_items, sym, ap, ◌∙◌, subst, arith}
+use Rattle.std.proofs.Common.{ℕ, ◌+◌, ◌∷◌, vec_items, sym, ◌∙◌, subst, arith}
 use Rattle.theory.specs.Draws.{shown}
 use Rattle.draws.proofs.Lowering.{Lowering, begins, not_out, all_round, back_at_start, goes_on}
 use Rattle.draws.proofs.Shown.{cycle_few}

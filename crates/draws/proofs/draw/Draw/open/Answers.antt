@@ -1,4 +1,4 @@
-use Rattle.std.proofs.Common.{◌≡◌, ◌≤◌, List, sym, ap, subst, arith, rules}
+use Rattle.std.proofs.Common.{◌≤◌, List, sym, subst, arith, rules}
 use Rattle.model.specs.declared.draw.Entry.{Entry}
 use Rattle.theory.proofs.Entries.{opened_heights}
 use Rattle.theory.proofs.OneEnd.{one_end_by_calls}

@@ -4,7 +4,7 @@ use Rattle.model.specs.declared.draw.Tried.{Tried}
 use Rattle.model.specs.declared.draw.Tried.TheVariants.{Settled}
 use Rattle.model.specs.declared.fault.DrawFault.{DrawFault}
 use Rattle.theory.specs.Calls.{After, tries}
-use Rattle.theory.specs.Draws.{Held, turned}
+use Rattle.theory.specs.Draws.{turned}
 use Rattle.draws.specs.States.{held_of}
 use Rattle.draws.proofs.Tried.{comes_to_cycle, goes_straight, tries_pops, tries_settles, law_of}
 use Rattle.draws.proofs.draw.Draw.try_at.Goals as goal
