@@ -23,7 +23,7 @@ returns c =
     ap command_of (sym are) ∙ ap (λ s. command_of (bytes s)) (sym c.as_slice.ensures.value) ∙ sym c.in_ok-command.ensures ∙ ap answer c.in-Err.is in
     a_mistake _ _ _ _ c.in-Err.mistake
     (λ none. false-eqb _ 0 c.if-is_empty.ensures (v.ok.0 ∙ same_count v.items (are ∙ none)))
-    read (worded_as _ _ _ c.in_ok-text.ensures)
+    read (worded_as _ _ _ c.in_ok-text-in-Err.ensures)
 
 pub returns-in-Ok : goal.returns-in-Ok
 returns-in-Ok c =
