@@ -8,15 +8,15 @@ use Rattle.plans.specs.declared.table.Span.{Span}
 use Rattle.std.proofs.ByRecursion.{All-from_get_or, all_kept_by, All-map}
 use Rattle.std.proofs.lemmas.List.{length-map, length-take}
 use Rattle.std.proofs.lemmas.Bool.{cond-false, ne_eqb}
-use Rattle.std.specs.List.{AllByRecursion as All}
+use Rattle.std.specs.List.{AllByRecursion}
 
 -- every target is a vertex
-pub leads_below : (n : ℕ) (links : List Link) → Ended n links → (v : ℕ) → All (λ w. w < n) (leads_from links v)
+pub leads_below : (n : ℕ) (links : List Link) → Ended n links → (v : ℕ) → AllByRecursion (λ w. w < n) (leads_from links v)
 leads_below n links ended v =
     All-map (λ w. w < n) end_of (filter (starts_at v) links)
     (all_kept_by (starts_at v) (λ l. l.to < n) links (All-from_get_or (λ l. l.to < n) links no_link (λ k there. (ended k there).1)))
 
-none_kept : (n v : ℕ) (links : List Link) → n ≤ v → All (λ l. l.from < n) links → filter (starts_at v) links ≡ []
+none_kept : (n v : ℕ) (links : List Link) → n ≤ v → AllByRecursion (λ l. l.from < n) links → filter (starts_at v) links ≡ []
 none_kept n v [] past low = refl
 none_kept n v (l ∷ links) past (here, low) =
     cond-false (l.from == v) (l ∷ filter (starts_at v) links) (filter (starts_at v) links) (ne_eqb l.from v (λ e. omega arith))

@@ -6,7 +6,7 @@ use Rattle.std.proofs.lemmas.List.FromFn.{length-range_with_len}
 use Rattle.std.proofs.ByRecursion.{all_kept_by}
 use Rattle.std.proofs.lemmas.List.{length-append}
 use Rattle.std.proofs.lemmas.Bool.{cond-true, cond-false, eq-eqb, ne_eqb, cases_lt, lt-ltb, le-ltb}
-use Rattle.std.specs.List.{range_with_len, AllByRecursion as All}
+use Rattle.std.specs.List.{range_with_len, AllByRecursion}
 
 abbrev but : ℕ → ℕ → Bool
 but v w = not (w == v)
@@ -51,11 +51,11 @@ pub others_few : (n : ℕ) → n ≤ 1024 → (v : ℕ) → length (others n v) 
 others_few n most v =
     ⊎_elim (λ within. omega (arith, others_length n v within)) (λ past. omega (arith, ap length (others_none n v past))) (cases_lt v n)
 
-counting_below : (a n b : ℕ) → a + n ≤ b → All (λ w. w < b) (range_with_len a n)
+counting_below : (a n b : ℕ) → a + n ≤ b → AllByRecursion (λ w. w < b) (range_with_len a n)
 counting_below a zero b le = tt
 counting_below a (suc n) b le = (omega arith, counting_below (a + 1) n b (omega arith))
 
 -- a row stays below n whether it is chosen or not
-pub others_below : (n v : ℕ) → All (λ w. w < n) (others n v)
+pub others_below : (n v : ℕ) → AllByRecursion (λ w. w < n) (others n v)
 others_below n v =
-    elim (nat_lt v n) as (λ b. All (λ w. w < n) (cond b (filter (but v) (range_with_len 0 n)) [])) [ true ↦ all_kept_by (but v) (λ w. w < n) (range_with_len 0 n) (counting_below 0 n n (omega arith)) | false ↦ tt ]
+    elim (nat_lt v n) as (λ b. AllByRecursion (λ w. w < n) (cond b (filter (but v) (range_with_len 0 n)) [])) [ true ↦ all_kept_by (but v) (λ w. w < n) (range_with_len 0 n) (counting_below 0 n n (omega arith)) | false ↦ tt ]

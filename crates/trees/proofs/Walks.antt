@@ -1,8 +1,8 @@
 -- One walk of the tree check: what holds on the way, and what each of its ends shows. Assumes nothing.
-use Rattle.std.proofs.Common.{◌≡◌, ℕ, zero, suc, ◌+◌, ◌<◌, ◌≤◌, Bool, true, false, not, eqb, ◌≢◌, ◌⊎◌, List, [], ◌∷◌, ◌++◌, length, get_or, set, replicate, Some, None, Ok, Option, sym, refl, ap, ◌∙◌, subst, inl, inr, ⊎_elim, arith, get_or-set_other, get_or-set_same}
+use Rattle.std.proofs.Common.{◌≡◌, ℕ, zero, suc, ◌+◌, ◌<◌, ◌≤◌, Bool, true, false, not, eqb, List, [], ◌∷◌, ◌++◌, length, get_or, set, replicate, Some, None, Ok, Option, sym, refl, ap, ◌∙◌, subst, ⊎_elim, arith, get_or-set_other, get_or-set_same}
 use Rattle.std.proofs.lemmas.Bool.{cases_eq, cases_lt, ne_eqb, eqb-true, eqb-false, cond-false, false≢true}
 use Rattle.model.specs.Layouts.{Layout, Sound}
-use Rattle.model.specs.Ways.{Way, Leads}
+use Rattle.model.specs.Ways.{Way}
 use Rattle.model.specs.Trees.{follow, Reaches, tree_check}
 use Rattle.model.specs.declared.tree.TreeCheck.{TreeCheck}
 use Rattle.model.specs.declared.tree.TreeCheck.TheVariants.{Tree, Lost}

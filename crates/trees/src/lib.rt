@@ -1,3 +1,5 @@
 // The check of a tree against any plan.
 
+#![tactic(auto)]
+
 pub mod check;

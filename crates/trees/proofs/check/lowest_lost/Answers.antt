@@ -4,8 +4,8 @@ use Rattle.trees.proofs.check.lowest_lost.Goals as goal
 
 pub loop-v-preserved : goal.loop-v-preserved
 loop-v-preserved g c =
-    let reached = c.if-not-reaches-root.false in
-    let judged = c.reaches-root.ensures in
+    let reached = c.if-not-reaches_root.false in
+    let judged = c.reaches_root.ensures in
     (judged.marked reached, below_more _ _ c.loop-v.invariant.1 (when_true _ _ reached judged.verdict))
 
 pub returns : goal.returns

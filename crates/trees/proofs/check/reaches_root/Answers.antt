@@ -10,23 +10,23 @@ loop-here-init g c = begins _ _ _ _ c.requires.within c.requires.marked
 pub returns-in-Some : goal.returns-in-Some
 returns-in-Some g c = at_mark _ _ _ (g.P.Plan.sound c.args.plan.now) _ _ c.loop-here.invariant _ c.in-Some.is
 
-pub returns-in-default-target : goal.returns-in-default-target
-returns-in-default-target g c =
+pub returns-in_default-target : goal.returns-in_default-target
+returns-in_default-target g c =
     lost _ _ _ _ (nowhere _ _ _ (g.P.Plan.sound c.args.plan.now) _ _ c.loop-here.invariant
     (λ same. c.loop-here-test.true (same ∙ sym c.root-root.ensures))
-    (sym c.target.ensures ∙ c.in-default-target.is))
+    (sym c.target.ensures ∙ c.in_default-target.is))
 
 inside : (g : given.Over) (c : In-Some-target g) → c.loop-here.here < length c.loop-here.marks
-inside g c = omega (arith, c.requires.room, c.loop-here.invariant.in-plan)
+inside g c = omega (arith, c.requires.room, c.loop-here.invariant.in_plan)
 
 pub loop-here-smaller : goal.loop-here-smaller
-loop-here-smaller g c = blanks_fall _ _ _ (inside g c) c.in-default.is
+loop-here-smaller g c = blanks_fall _ _ _ (inside g c) c.in_default.is
 
 pub loop-here-preserved : goal.loop-here-preserved
 loop-here-preserved g c =
     walks_on _ _ _ (g.P.Plan.sound c.args.plan.now) _ _ c.loop-here.invariant
     (λ same. c.loop-here-test.true (same ∙ sym c.root-root.ensures))
-    _ (inside g c) c.in-default.is (sym c.target.ensures ∙ c.in-Some-target.is)
+    _ (inside g c) c.in_default.is (sym c.target.ensures ∙ c.in-Some-target.is)
 
 pub returns : goal.returns
 returns g c = reached _ _ _ (g.P.Plan.sound c.args.plan.now) _ _ c.loop-here.invariant (inl (c.loop-here-test.false ∙ c.root-root.ensures))

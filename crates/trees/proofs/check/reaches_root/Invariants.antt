@@ -1,4 +1,3 @@
-use Rattle.std.proofs.Common.{◌≤◌, length}
 use Rattle.trees.proofs.Walks.{Walking, blanks}
 use Rattle.trees.proofs.check.reaches_root.Given as goal
 

@@ -8,39 +8,29 @@ use Rattle.plans.specs.declared.table.Span.{Span}
 pub grown-span-requires : goal.grown-span-requires
 grown-span-requires c =
     let t = c.args.self.now in
-    span_free t c.args.from c.args.to (taken (cabling_of t) c.args.from c.args.to (sym c.in-default.ensures)) c.span.result c.span.ensures
+    span_free t c.args.from c.args.to (taken (cabling_of t) c.args.from c.args.to (sym c.in_default.ensures)) c.span.result c.span.ensures
 
-pub invariant-of-self : goal.invariant-of-self
-invariant-of-self c =
+pub invariant_of-self : goal.invariant_of-self
+invariant_of-self c =
     let t = c.args.self.now in
     let u = c.args.from in
-    let ok : Taken (cabling_of t) u c.args.to = taken (cabling_of t) u c.args.to (sym c.in-default.ensures) in
+    let ok : Taken (cabling_of t) u c.args.to = taken (cabling_of t) u c.args.to (sym c.in_default.ensures) in
     let end : c.len-end.result ≡ length (vec_items t.links) = c.len-end.ensures ∙ t.links.ok.0 in
     let span : c.grown-span.result ≡ grown (span_at (vec_items t.spans) u) (length (vec_items t.links)) =
     c.grown-span.ensures ∙ ap (λ (s : Span). grown s c.len-end.result) c.span.ensures ∙ ap (grown (span_at (vec_items t.spans) u)) end in
-    let pushed = c.push-reserved.ensures in
-    let k = kept_told t u c.args.to ok (vec_items c.push-reserved.new.self) c.grown-span.result pushed.items span in (
-      t.least,
-      (
-        t.most,
-        (
-          t.rooted,
-          (
-            omega (arith, pushed.capacity, t.roomy),
-            (
-              omega (arith, ok.room, pushed.len, t.links.ok.0),
-              (
-                t.rows,
-                (
-                  k.ended,
-                  (
-                    k.rising,
-                    ((λ v h. (k.placed v h).lies), ((λ v h. (k.placed v h).narrow), ((λ v h. (k.placed v h).leads), ((λ v h. (k.placed v h).bare), ((λ v h. (k.placed v h).last), tt))))),
-                  ),
-                ),
-              ),
-            ),
-          ),
-        ),
-      ),
-    )
+    let pushed = c.push_reserved.ensures in
+    let k = kept_told t u c.args.to ok (vec_items c.push_reserved.new.self) c.grown-span.result pushed.items span in record {
+      least = t.least;
+      most = t.most;
+      rooted = t.rooted;
+      roomy = omega (arith, pushed.capacity, t.roomy);
+      few = omega (arith, ok.room, pushed.len, t.links.ok.0);
+      rows = t.rows;
+      ended = k.ended;
+      rising = k.rising;
+      lie = λ v h. (k.placed v h).lies;
+      narrow = λ v h. (k.placed v h).narrow;
+      lead = λ v h. (k.placed v h).leads;
+      bare = λ v h. (k.placed v h).bare;
+      newest = λ v h. (k.placed v h).last;
+    }
