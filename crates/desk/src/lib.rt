@@ -1,4 +1,6 @@
 // The desk: a draw with its list of records and its order as one value.
 
+#![tactic(auto)]
+
 mod lists;
 pub mod running;

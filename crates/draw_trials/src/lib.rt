@@ -1,5 +1,7 @@
 // Examples and limits of draws. They stand apart, since a crate with tests is proved twice.
 
+#![tactic(auto)]
+
 #[cfg(test)]
 mod draws;
 #[cfg(test)]

@@ -1,5 +1,5 @@
 -- Going once round a cycle from any of its vertices comes by the lowest. Assumes nothing.
-use Rattle.std.proofs.Common.{◌≡◌, ℕ, suc, ◌+◌, ◌<◌, ◌≤◌, min, true, false, ◌⊎◌, List, [], ◌∷◌, ◌++◌, length, Some, None, Option, sym, refl, ap, ◌∙◌, subst, inl, inr, ⊎_elim, arith, length-append}
+use Rattle.std.proofs.Common.{◌≡◌, ℕ, suc, ◌+◌, ◌<◌, ◌≤◌, min, true, false, ◌⊎◌, List, [], ◌∷◌, length, Some, None, Option, sym, ap, ◌∙◌, subst, inl, inr, ⊎_elim, arith, length-append}
 use Rattle.std.proofs.lemmas.Bool.{cases_lt, both_ways, or_parts}
 use Rattle.model.specs.Ways.{Way}
 use Rattle.model.proofs.Ways.{none_some, same_some}
@@ -55,7 +55,7 @@ module _ (arrow : ℕ → Option ℕ) (n start m : ℕ) (rest : List ℕ) (cyc :
         where
           by : Toward here low gone → (min low next ≡ m) ⊎ Ahead
           by (inl e) = inl (omega (arith, cycle_low arrow m rest next cyc next_on))
-          by (inr ([], last, off, short)) = inl (omega (arith, cycle_low arrow m rest low cyc l.low-on, same_some (arrow here) next m on last))
+          by (inr ([], last, off, short)) = inl (omega (arith, cycle_low arrow m rest low cyc l.low_on, same_some (arrow here) next m on last))
           by (inr (z ∷ zs, (first, way), off, short)) =
               let e : z ≡ next = same_some (arrow here) z next first on in
               inr (zs, subst (λ t. Way arrow t zs m) e way, subst (λ t. among start (t ∷ zs) ≡ false) e off, omega arith)
@@ -67,7 +67,7 @@ module _ (arrow : ℕ → Option ℕ) (n start m : ℕ) (rest : List ℕ) (cyc :
       goes_on = record {
         here_on = next_on;
         low_on = ⊎_elim
-            (λ lt. let e : low ≡ min low next = omega arith in subst (λ t. among t (m ∷ rest) ≡ true) e l.low-on)
+            (λ lt. let e : low ≡ min low next = omega arith in subst (λ t. among t (m ∷ rest) ≡ true) e l.low_on)
             (λ ge. let e : next ≡ min low next = omega arith in subst (λ t. among t (m ∷ rest) ≡ true) e next_on)
             (cases_lt low next);
         toward = ⊎_elim inl (λ (zs, way, off, short). inr (zs, way, (or_parts _ _ off).1, short)) lowered;

@@ -1,5 +1,5 @@
 -- A way that leaves a mark behind: to meet it again is to have come round, and so is to go as many arrows as there are vertices. Assumes nothing.
-use Rattle.std.proofs.Common.{◌≡◌, ℕ, suc, ◌+◌, ◌<◌, ◌≤◌, ◌⊎◌, List, [], ◌∷◌, ◌++◌, length, Some, None, Option, sym, refl, ap, ◌∙◌, subst, inl, inr, ⊎_elim, arith, length-append}
+use Rattle.std.proofs.Common.{◌≡◌, ℕ, suc, ◌+◌, ◌<◌, ◌≤◌, ◌⊎◌, List, [], ◌∷◌, ◌++◌, length, Some, None, Option, sym, refl, ap, ◌∙◌, subst, inl, inr, arith, length-append}
 use Rattle.model.specs.Ways.{Way, Leads}
 use Rattle.model.proofs.Ways.{way_more}
 use Rattle.theory.specs.Laws.{Loops, Rounds, RunsOut}
@@ -21,7 +21,7 @@ module _ (arrow : ℕ → Option ℕ) (v : ℕ) where
 
   module _ (mark here gone : ℕ) (w : Walking mark here gone) where
     to_here : Leads arrow v here
-    to_here = lead_join arrow v mark here w.to-mark w.past
+    to_here = lead_join arrow v mark here w.to_mark w.past
 
     pub ran_out : arrow here ≡ None → RunsOut arrow v
     ran_out none = (here, to_here, none)
@@ -31,7 +31,7 @@ module _ (arrow : ℕ → Option ℕ) (v : ℕ) where
     loop_at last (inr (xs, way)) = (xs ++ here ∷ [], way_more arrow mark xs here mark way last)
 
     pub met : (next : ℕ) → arrow here ≡ Some next → next ≡ mark → Rounds arrow v next
-    met next on same = subst (λ z. Rounds arrow v z) (sym same) (w.to-mark, loop_at (on ∙ ap Some same) w.past)
+    met next on same = subst (λ z. Rounds arrow v z) (sym same) (w.to_mark, loop_at (on ∙ ap Some same) w.past)
 
     further : (next : ℕ) → arrow here ≡ Some next → Gone here gone → Gone next (gone + 1)
     further next on (inl (none, e)) = inr ([], subst (λ z. arrow z ≡ Some next) (sym e) on, omega arith)
@@ -41,7 +41,7 @@ module _ (arrow : ℕ → Option ℕ) (v : ℕ) where
     pub walks_on : (next moved : ℕ) → arrow here ≡ Some next → (moved ≡ mark) ⊎ (moved ≡ next) → Walking moved next (gone + 1)
     walks_on next moved on (inl e) = record {
       went = further next on w.went;
-      to_mark = subst (λ z. Leads arrow v z) (sym e) w.to-mark;
+      to_mark = subst (λ z. Leads arrow v z) (sym e) w.to_mark;
       past = subst (λ z. Leads arrow z next) (sym e) (lead_more arrow mark here next w.past on);
     }
     walks_on next moved on (inr e) = record {

@@ -1,6 +1,6 @@
 -- Settling the vertices of a trail that does not come round, one after the other. Assumes nothing.
-use Rattle.std.proofs.Common.{◌≡◌, ℕ, zero, suc, ◌+◌, ◌<◌, ◌≤◌, Bool, true, false, cond, ◌||◌, ◌⊎◌, List, [], ◌∷◌, ◌++◌, length, get_or, set, Some, None, Option, sym, refl, ap, ◌∙◌, subst, inl, inr, ⊎_elim, arith, length-append}
-use Rattle.std.specs.List.{AllByRecursion as All}
+use Rattle.std.proofs.Common.{◌≡◌, ℕ, zero, suc, ◌+◌, ◌<◌, ◌≤◌, Bool, true, false, cond, ◌||◌, ◌⊎◌, List, [], ◌∷◌, ◌++◌, length, get_or, set, Some, None, Option, sym, refl, ap, ◌∙◌, subst, ⊎_elim, arith, length-append}
+use Rattle.std.specs.List.{AllByRecursion}
 use Rattle.std.proofs.ByRecursion.{All-push}
 use Rattle.std.proofs.lemmas.Bool.{or_cases, or_parts, both_ways, false≢true}
 use Rattle.model.specs.Arrows.{Cells, sight}
@@ -30,7 +30,7 @@ module _ (arrow : ℕ → Option ℕ) (start : List Entry) (t : Trail) where
     pub counted : count ≡ length done
     pub enough : length start < length done + fuel
     pub low : here < length start
-    pub inside : All (λ x. x < length start) done
+    pub inside : AllByRecursion (λ x. x < length start) done
     pub distinct : Distinct done
     pub opens : (x : ℕ) → among x done ≡ true → before x ≡ false
 

@@ -1,5 +1,5 @@
 -- The visible arrows of a draw of the plan stay among its vertices. Assumes nothing.
-use Rattle.std.proofs.Common.{◌≡◌, ℕ, ◌<◌, ◌≤◌, true, List, ◌∷◌, length, get_or, Some, ap}
+use Rattle.std.proofs.Common.{◌≡◌, ℕ, ◌<◌, ◌≤◌, true, List, length, get_or, Some, ap}
 use Rattle.model.specs.Arrows.{Cells, sight}
 use Rattle.model.specs.Layouts.{Layout, Sound}
 use Rattle.model.specs.declared.draw.Entry.{Entry}

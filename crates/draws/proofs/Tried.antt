@@ -1,7 +1,6 @@
 -- What a try finds on its way decides what it does. Assumes nothing.
-use Rattle.std.proofs.Common.{◌≡◌, ℕ, suc, ◌+◌, ◌<◌, ◌≤◌, Bool, true, false, cond, not, ltb, List, [], ◌∷◌, map, length, set, Some, None, Ok, Option, Result, sym, refl, ap, ◌∙◌, subst, ⊎_elim, arith, MatchOption}
+use Rattle.std.proofs.Common.{◌≡◌, ℕ, suc, ◌+◌, ◌<◌, ◌≤◌, Bool, true, false, cond, not, ltb, List, [], ◌∷◌, length, set, Some, None, Ok, Option, Result, sym, refl, ap, ◌∙◌, subst, arith, MatchOption}
 use Rattle.std.proofs.lemmas.List.{length-map}
-use Rattle.std.proofs.lemmas.Bool.{cases_Bool, not-true}
 use Rattle.model.specs.Arrows.{Cells}
 use Rattle.model.specs.Layouts.{Layout, Sound}
 use Rattle.model.specs.declared.draw.Entry.{Entry}
@@ -11,7 +10,7 @@ use Rattle.model.specs.declared.draw.Tried.TheVariants.{Popped}
 use Rattle.model.specs.declared.fault.DrawFault.{DrawFault}
 use Rattle.model.specs.declared.fault.DrawFault.TheVariants as fault
 use Rattle.theory.specs.Calls.{After, first_fault, refused, settles, pops_cycle, by_trail, tries}
-use Rattle.theory.specs.Cycles.{Heights, among, Cycle, coloured, raise}
+use Rattle.theory.specs.Cycles.{Heights, among, Cycle, coloured}
 use Rattle.theory.specs.Draws.{height_of, is_settled, changed, higher, Held, is_of, shown, Trail, trail, turned, record_of}
 use Rattle.theory.specs.Ends.{if_some}
 use Rattle.theory.specs.Laws.{Rounds, RunsOut, Closes, open_arrows, TryLaw}

@@ -56,7 +56,7 @@ pub(crate) fn visible_port<P: Plan, S: ArrowSource>(
     arrows: &S,
     v: u16,
 ) -> Option<u16>
-    ensures { result ≡ visible (layout plan.now) (cells arrows.now) v (height_of entries.now.list.items v) }
+    ensures { result ≡ visible (P.layout plan.now) (S.cells arrows.now) v (height_of entries.now.list.items v) }
 {
     if v == plan.root() {
         return None;
@@ -73,7 +73,7 @@ pub(crate) fn target<P: Plan, S: ArrowSource>(
     arrows: &S,
     v: u16,
 ) -> Option<u16>
-    ensures { result ≡ shown (layout plan.now) (cells arrows.now) entries.now.list.items v }
+    ensures { result ≡ shown (P.layout plan.now) (S.cells arrows.now) entries.now.list.items v }
 {
     plan.target(v, visible_port(entries, plan, arrows, v)?)
 }
@@ -85,7 +85,7 @@ pub(crate) fn onward<P: Plan, S: ArrowSource>(
     arrows: &S,
     v: u16,
 ) -> Option<u16>
-    ensures { result ≡ open_arrows (layout plan.now) (cells arrows.now) entries.now.list.items v }
+    ensures { result ≡ open_arrows (P.layout plan.now) (S.cells arrows.now) entries.now.list.items v }
 {
     if settled(entries, v) {
         None

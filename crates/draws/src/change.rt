@@ -45,9 +45,9 @@ pub(crate) fn raise_cycle<P: Plan, S: ArrowSource>(
     arrows: &S,
     low: u16,
 ) -> u16
-    requires sized { length entries.old.list.items ≡ (layout plan.now).size }
-    requires cycle { (rest : List ℕ) × Cycle (shown (layout plan.now) (cells arrows.now) entries.old.list.items) (low ∷ rest) }
-    ensures { (rest : List ℕ) → Cycle (shown (layout plan.now) (cells arrows.now) entries.old.list.items) (low ∷ rest) → (entries.new.list.items ≡ changed higher (low ∷ rest) entries.old.list.items) × (result ≡ suc (length rest)) }
+    requires sized { length entries.old.list.items ≡ (P.layout plan.now).size }
+    requires cycle { (rest : List ℕ) × Cycle (shown (P.layout plan.now) (S.cells arrows.now) entries.old.list.items) (low ∷ rest) }
+    ensures { (rest : List ℕ) → Cycle (shown (P.layout plan.now) (S.cells arrows.now) entries.old.list.items) (low ∷ rest) → (entries.new.list.items ≡ changed higher (low ∷ rest) entries.old.list.items) × (result ≡ suc (length rest)) }
 {
     let mut here = low;
     let mut count = 0;
@@ -72,11 +72,11 @@ pub(crate) fn settle_way<P: Plan, S: ArrowSource>(
     arrows: &S,
     start: u16,
 ) -> u16
-    requires sized { length entries.old.list.items ≡ (layout plan.now).size }
-    requires within { start < (layout plan.now).size }
-    requires straight { (trail (layout plan.now) (cells arrows.now) entries.old.list.items start).loop ≡ None }
-    ensures after { entries.new.list.items ≡ changed shut (trail (layout plan.now) (cells arrows.now) entries.old.list.items start).path entries.old.list.items }
-    ensures count { result ≡ length (trail (layout plan.now) (cells arrows.now) entries.old.list.items start).path }
+    requires sized { length entries.old.list.items ≡ (P.layout plan.now).size }
+    requires within { start < (P.layout plan.now).size }
+    requires straight { (trail (P.layout plan.now) (S.cells arrows.now) entries.old.list.items start).loop ≡ None }
+    ensures after { entries.new.list.items ≡ changed shut (trail (P.layout plan.now) (S.cells arrows.now) entries.old.list.items start).path entries.old.list.items }
+    ensures count { result ≡ length (trail (P.layout plan.now) (S.cells arrows.now) entries.old.list.items start).path }
 {
     let mut here = start;
     let mut count = 0;

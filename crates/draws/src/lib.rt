@@ -1,4 +1,5 @@
 // Draws: cycle popping over a plan and its arrows.
+#![tactic(auto)]
 
 mod arrows;
 mod change;

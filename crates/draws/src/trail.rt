@@ -48,9 +48,9 @@ pub(crate) fn comes_round<P: Plan, S: ArrowSource>(
     arrows: &S,
     v: u16,
 ) -> Option<u16>
-    requires sized { length entries.now.list.items ≡ (layout plan.now).size }
-    requires within { v < (layout plan.now).size }
-    ensures { MatchOption result (RunsOut (open_arrows (layout plan.now) (cells arrows.now) entries.now.list.items) v) (Rounds (open_arrows (layout plan.now) (cells arrows.now) entries.now.list.items) v) }
+    requires sized { length entries.now.list.items ≡ (P.layout plan.now).size }
+    requires within { v < (P.layout plan.now).size }
+    ensures { MatchOption result (RunsOut (open_arrows (P.layout plan.now) (S.cells arrows.now) entries.now.list.items) v) (Rounds (open_arrows (P.layout plan.now) (S.cells arrows.now) entries.now.list.items) v) }
 {
     let mut mark = Mark {
         vertex: v,
@@ -78,8 +78,8 @@ pub(crate) fn lowest_around<P: Plan, S: ArrowSource>(
     arrows: &S,
     start: u16,
 ) -> u16
-    requires sized { length entries.now.list.items ≡ (layout plan.now).size }
-    ensures { (m : ℕ) (rest : List ℕ) → Cycle (shown (layout plan.now) (cells arrows.now) entries.now.list.items) (m ∷ rest) → among start (m ∷ rest) ≡ true → result ≡ m }
+    requires sized { length entries.now.list.items ≡ (P.layout plan.now).size }
+    ensures { (m : ℕ) (rest : List ℕ) → Cycle (shown (P.layout plan.now) (S.cells arrows.now) entries.now.list.items) (m ∷ rest) → among start (m ∷ rest) ≡ true → result ≡ m }
 {
     let mut low = start;
     let mut here = start;

@@ -24,13 +24,13 @@ fn none_open(entries: &[Entry]) -> bool
 }
 
 fn is_dry<P: Plan, S: ArrowSource>(draw: &Draw, plan: &P, arrows: &S, v: u16) -> bool
-    ensures { result ≡ is_dry (layout plan.now) (cells arrows.now) v (height_of (state_of draw.now).entries v) }
+    ensures { result ≡ is_dry (P.layout plan.now) (S.cells arrows.now) v (height_of (state_of draw.now).entries v) }
 {
     (v != plan.root()) & draw.visible_port(plan, arrows, v).is_none()
 }
 
 fn lowest_dry<P: Plan, S: ArrowSource>(draw: &Draw, plan: &P, arrows: &S) -> Option<u16>
-    ensures { result ≡ lowest_dry (layout plan.now) (cells arrows.now) (height_of (state_of draw.now).entries) }
+    ensures { result ≡ lowest_dry (P.layout plan.now) (S.cells arrows.now) (height_of (state_of draw.now).entries) }
 {
     for v in 0..plan.size() {
         if is_dry(draw, plan, arrows, v) {
@@ -46,7 +46,7 @@ pub(crate) fn end_fault<P: Plan, S: ArrowSource>(
     plan: &P,
     arrows: &S,
 ) -> Option<DrawFault>
-    ensures { result ≡ end_fault (layout plan.now) (cells arrows.now) (state_of draw.now) }
+    ensures { result ≡ end_fault (P.layout plan.now) (S.cells arrows.now) (state_of draw.now) }
 {
     if !none_open(draw.entries()) {
         return Some(DrawFault::StillOpen);

@@ -31,14 +31,14 @@ fn room_fault(size: u16, depth: u16, cells: usize, ports: usize) -> Option<DrawF
 }
 
 fn is_tree<P: Plan>(plan: &P, ports: &[u16]) -> bool
-    ensures { result ≡ says_yes (tree_check (layout plan.now) ports.now) }
+    ensures { result ≡ says_yes (tree_check (P.layout plan.now) ports.now) }
 {
     matches!(check_tree(plan, ports), Ok(TreeCheck::Tree))
 }
 
 // The draw's end is looked at over the very cells that are to be changed.
 fn end_fault_over<P: Plan>(draw: &Draw, plan: &P, cells: &[u16], depth: u16) -> Option<DrawFault>
-    ensures { result ≡ end_fault (layout plan.now) (cells_of (layout plan.now) depth cells.now) (state_of draw.now) }
+    ensures { result ≡ end_fault (P.layout plan.now) (cells_of (P.layout plan.now) depth cells.now) (state_of draw.now) }
 {
     let arrows = Lent {
         size: plan.size(),
@@ -56,7 +56,7 @@ fn reseat_fault<P: Plan>(
     depth: u16,
     ports: &[u16],
 ) -> Option<DrawFault>
-    ensures { result ≡ reseat_fault (layout plan.now) (state_of draw.now) depth cells.now ports.now }
+    ensures { result ≡ reseat_fault (P.layout plan.now) (state_of draw.now) depth cells.now ports.now }
 {
     if let Some(fault) = room_fault(plan.size(), depth, cells.len(), ports.len()) {
         return Some(fault);
@@ -83,9 +83,9 @@ fn height(entries: &[Entry], v: u16) -> u16
 }
 
 fn seat<P: Plan>(draw: &Draw, plan: &P, cells: &mut [u16], depth: u16, ports: &[u16], v: u16)
-    requires within { v < (layout plan.now).size }
-    requires seats { HasSeats (layout plan.now) (state_of draw.now) depth cells.old ports.now }
-    ensures { cells.new ≡ seat (layout plan.now) depth (height_of (state_of draw.now).entries) ports.now v cells.old }
+    requires within { v < (P.layout plan.now).size }
+    requires seats { HasSeats (P.layout plan.now) (state_of draw.now) depth cells.old ports.now }
+    ensures { cells.new ≡ seat (P.layout plan.now) depth (height_of (state_of draw.now).entries) ports.now v cells.old }
 {
     let index = height(draw.entries(), v);
     if let Some(at) = place(plan.size(), plan.root(), depth, v, index) {
@@ -94,8 +94,8 @@ fn seat<P: Plan>(draw: &Draw, plan: &P, cells: &mut [u16], depth: u16, ports: &[
 }
 
 fn seat_all<P: Plan>(draw: &Draw, plan: &P, cells: &mut [u16], depth: u16, ports: &[u16])
-    requires { HasSeats (layout plan.now) (state_of draw.now) depth cells.old ports.now }
-    ensures { cells.new ≡ reseated (layout plan.now) depth (height_of (state_of draw.now).entries) ports.now cells.old }
+    requires { HasSeats (P.layout plan.now) (state_of draw.now) depth cells.old ports.now }
+    ensures { cells.new ≡ reseated (P.layout plan.now) depth (height_of (state_of draw.now).entries) ports.now cells.old }
 {
     for v in 0..plan.size() {
         seat(draw, plan, cells, depth, ports, v);
@@ -111,7 +111,7 @@ pub fn reseat<P: Plan>(
     depth: u16,
     ports: &[u16],
 ) -> Result<(), DrawFault>
-    ensures { (result, cells.new) ≡ reseats_to (layout plan.now) (state_of draw.now) depth cells.old ports.now }
+    ensures { (result, cells.new) ≡ reseats_to (P.layout plan.now) (state_of draw.now) depth cells.old ports.now }
 {
     if let Some(fault) = reseat_fault(draw, plan, cells, depth, ports) {
         return Err(fault);

@@ -19,7 +19,7 @@ fn tree_fault<P: Plan, S: ArrowSource>(
     arrows: &S,
     ports: &[u16],
 ) -> Option<DrawFault>
-    ensures { result ≡ tree_fault (layout plan.now) (cells arrows.now) (state_of draw.now) ports.now }
+    ensures { result ≡ tree_fault (P.layout plan.now) (S.cells arrows.now) (state_of draw.now) ports.now }
 {
     if !draw.is_of(plan) {
         Some(DrawFault::OtherPlan)
@@ -31,14 +31,14 @@ fn tree_fault<P: Plan, S: ArrowSource>(
 }
 
 fn port_shown<P: Plan, S: ArrowSource>(draw: &Draw, plan: &P, arrows: &S, v: u16) -> u16
-    ensures { result ≡ port_shown (layout plan.now) (cells arrows.now) (height_of (state_of draw.now).entries) v }
+    ensures { result ≡ port_shown (P.layout plan.now) (S.cells arrows.now) (height_of (state_of draw.now).entries) v }
 {
     draw.visible_port(plan, arrows, v).unwrap_or(NO_PORT)
 }
 
 fn write_ports<P: Plan, S: ArrowSource>(draw: &Draw, plan: &P, arrows: &S, ports: &mut [u16])
-    requires { (layout plan.now).size ≤ length ports.old }
-    ensures { ports.new ≡ ports_at (layout plan.now) (cells arrows.now) (height_of (state_of draw.now).entries) ++ drop (layout plan.now).size ports.old }
+    requires { (P.layout plan.now).size ≤ length ports.old }
+    ensures { ports.new ≡ ports_at (P.layout plan.now) (S.cells arrows.now) (height_of (state_of draw.now).entries) ++ drop (P.layout plan.now).size ports.old }
 {
     for v in 0..plan.size() {
         ports[v as usize] = port_shown(draw, plan, arrows, v);
@@ -52,7 +52,7 @@ pub fn tree<P: Plan, S: ArrowSource>(
     arrows: &S,
     ports: &mut [u16],
 ) -> Result<(), DrawFault>
-    ensures { (result, ports.new) ≡ trees (layout plan.now) (cells arrows.now) (state_of draw.now) ports.old }
+    ensures { (result, ports.new) ≡ trees (P.layout plan.now) (S.cells arrows.now) (state_of draw.now) ports.old }
 {
     if let Some(fault) = tree_fault(draw, plan, arrows, ports) {
         return Err(fault);

@@ -1,5 +1,7 @@
 // Examples and limits of plans, arrows and orders. They stand apart, since a crate with tests is proved twice.
 
+#![tactic(auto)]
+
 #[cfg(test)]
 mod arrows;
 #[cfg(test)]

@@ -1,6 +1,6 @@
 -- Ways along arrows: how they join, and that only one leads to a vertex without an arrow. Assumes nothing.
 use Rattle.std.proofs.Common.{◌≡◌, ℕ, suc, ◌+◌, ◌<◌, ◌≤◌, ◌⊎◌, List, [], ◌∷◌, ◌++◌, length, Some, None, Option, sym, refl, ap, ◌∙◌, subst, inl, inr, arith, length-append}
-use Rattle.std.specs.List.{AllByRecursion as All}
+use Rattle.std.specs.List.{AllByRecursion}
 use Rattle.std.proofs.ByRecursion.{All-weaker}
 use Rattle.model.specs.Ways.{Way, Leads}
 use Rattle.model.specs.Distinct.{Fresh, Distinct}
@@ -42,7 +42,7 @@ module _ (f : ℕ → Option ℕ) where
   way_more u xs v w way last = way_join u xs v [] w way last
 
   -- the vertices of a way are where arrows lead
-  pub way_all : (P : ℕ → Type 0) → ((u v : ℕ) → f u ≡ Some v → P v) → (u : ℕ) (xs : List ℕ) (w : ℕ) → Way f u xs w → All P xs
+  pub way_all : (P : ℕ → Type 0) → ((u v : ℕ) → f u ≡ Some v → P v) → (u : ℕ) (xs : List ℕ) (w : ℕ) → Way f u xs w → AllByRecursion P xs
   way_all P leads u [] w way = tt
   way_all P leads u (x ∷ xs) w (first, way) = (leads u x first, way_all P leads x xs w way)
 
@@ -56,7 +56,7 @@ module _ (f : ℕ → Option ℕ) where
       ap (λ l. x ∷ l) (way_once x xs ys v fresh fresh2 way (subst (λ z. Way f z ys v) e way2)) ∙ ap (λ z. z ∷ ys) (sym e)
 
   -- from each vertex of such a way a shorter one leads to its end
-  shorter : (u : ℕ) (xs : List ℕ) (v : ℕ) → Fresh v xs → Way f u xs v → All (λ y. (ys : List ℕ) × (length ys < length xs) × Fresh v ys × Way f y ys v) xs
+  shorter : (u : ℕ) (xs : List ℕ) (v : ℕ) → Fresh v xs → Way f u xs v → AllByRecursion (λ y. (ys : List ℕ) × (length ys < length xs) × Fresh v ys × Way f y ys v) xs
   shorter u [] v fresh way = tt
   shorter u (x ∷ xs) v (apart, fresh) (first, way) = (
     (xs, omega arith, fresh, way),

@@ -1,6 +1,6 @@
 -- What stands in a list, and lists in which nothing stands twice. Assumes nothing.
 use Rattle.std.specs.Prelude.{◌≡◌, ◌⊎◌, List, [], ◌∷◌, ◌≢◌}
-use Rattle.std.specs.List.{AllByRecursion as All}
+use Rattle.std.specs.List.{AllByRecursion}
 
 -- x is one of xs
 abbrev pub In : {X : Type 0} → X → List X → Type 0
@@ -9,7 +9,7 @@ In x (y ∷ ys) = (x ≡ y) ⊎ In x ys
 
 -- x is none of xs
 abbrev pub Fresh : {X : Type 0} → X → List X → Type 0
-Fresh x xs = All (λ y. x ≢ y) xs
+Fresh x xs = AllByRecursion (λ y. x ≢ y) xs
 
 abbrev pub Distinct : {X : Type 0} → List X → Type 0
 Distinct [] = Unit {0}

@@ -1,5 +1,7 @@
 // The vocabulary of drain trees: plans, arrow sources, orders, what draws are made of, what checking a tree answers, and faults.
 
+#![tactic(auto)]
+
 pub mod draw;
 pub mod fault;
 pub mod order;

@@ -1,6 +1,6 @@
 -- Counting what passes a test by maps there and back. Assumes nothing.
 use Rattle.std.proofs.Common.{◌≡◌, suc, ◌≤◌, Bool, true, List, [], ◌∷◌, map, length, count_by, filter, sym, refl, ap, ◌∙◌, subst, inl, inr, arith}
-use Rattle.std.specs.List.{AllByRecursion as All}
+use Rattle.std.specs.List.{AllByRecursion}
 use Rattle.std.proofs.lemmas.List.{length-map}
 use Rattle.std.proofs.lemmas.List.Sums.{length-filter}
 use Rattle.model.specs.Distinct.{In, Fresh, Distinct}
@@ -28,12 +28,12 @@ module _ {X : Type 0} where
   in_removed x (y ∷ ys) (inr later) z (inr at) apart = inr (in_removed x ys later z at apart)
 
   -- different members of a list are at most as many as it has
-  pub members_few : (xs ys : List X) → Distinct xs → All (λ x. In x ys) xs → length xs ≤ length ys
+  pub members_few : (xs ys : List X) → Distinct xs → AllByRecursion (λ x. In x ys) xs → length xs ≤ length ys
   members_few [] ys d inside = omega arith
   members_few (x ∷ xs) ys (fresh, d) (there, inside) =
       omega (arith, length_removed x ys there, members_few xs (removed x ys there) d (still xs fresh inside))
     where
-      still : (zs : List X) → Fresh x zs → All (λ z. In z ys) zs → All (λ z. In z (removed x ys there)) zs
+      still : (zs : List X) → Fresh x zs → AllByRecursion (λ z. In z ys) zs → AllByRecursion (λ z. In z (removed x ys there)) zs
       still [] off at = tt
       still (z ∷ zs) (o, off) (a, at) = (in_removed x ys there z a o, still zs off at)
 
@@ -52,10 +52,10 @@ module _ {X : Type 0} where
         members_few (map f (filter P xs)) (filter Q xs) (distinct_map f g (filter P xs) undone (distinct_kept P xs d)) landed,
       )
     where
-      undone : All (λ x. g (f x) ≡ x) (filter P xs)
+      undone : AllByRecursion (λ x. g (f x) ≡ x) (filter P xs)
       undone = all_from_in (λ x. g (f x) ≡ x) (filter P xs) (λ x at. let (member, passed) = kept_in P xs x at in (there x member passed).2)
 
-      landed : All (λ y. In y (filter Q xs)) (map f (filter P xs))
+      landed : AllByRecursion (λ y. In y (filter Q xs)) (map f (filter P xs))
       landed = all_from_in (λ y. In y (filter Q xs)) (map f (filter P xs)) (λ y at.
           let (x, in_kept_x, is) = map_in f (filter P xs) y at in
           let (member, passed) = kept_in P xs x in_kept_x in

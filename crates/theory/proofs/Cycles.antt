@@ -1,7 +1,7 @@
 -- Cycles at the same heights are equal or apart, and pops of cycles that are apart can change turns. Assumes nothing.
 use Rattle.std.proofs.Common.{◌≡◌, ℕ, suc, ◌<◌, ◌≤◌, Bool, true, false, cond, ◌||◌, eqb, ◌⊎◌, List, [], ◌∷◌, ◌++◌, map, Some, None, Option, sym, refl, ap, ◌∙◌, subst, inl, inr, ⊎_elim, arith}
 use mathlib.Core.Path.{fun_ext}
-use Rattle.std.specs.List.{AllByRecursion as All}
+use Rattle.std.specs.List.{AllByRecursion}
 use Rattle.std.proofs.ByRecursion.{All-weaker}
 use Rattle.std.proofs.lemmas.Bool.{eqb-true, eq-eqb, or_cases, or_left, or_right, false≢true, cases_Bool, both_ways}
 use Rattle.model.specs.Ways.{Way, Leads}
@@ -21,11 +21,11 @@ among_later v x xs on = or_right (eqb v x) (among v xs) on
 pub among_cases : (v x : ℕ) (xs : List ℕ) → among v (x ∷ xs) ≡ true → (v ≡ x) ⊎ (among v xs ≡ true)
 among_cases v x xs on = ⊎_elim (λ e. inl (eqb-true v x e)) inr (or_cases (eqb v x) (among v xs) on)
 
-pub among_all : (P : ℕ → Type 0) (v : ℕ) (xs : List ℕ) → All P xs → among v xs ≡ true → P v
+pub among_all : (P : ℕ → Type 0) (v : ℕ) (xs : List ℕ) → AllByRecursion P xs → among v xs ≡ true → P v
 among_all P v [] all on = absurd (false≢true on)
 among_all P v (x ∷ xs) (here, all) on = ⊎_elim (λ e. subst P (sym e) here) (among_all P v xs all) (among_cases v x xs on)
 
-pub all_among : (P : ℕ → Type 0) (xs : List ℕ) → ((v : ℕ) → among v xs ≡ true → P v) → All P xs
+pub all_among : (P : ℕ → Type 0) (xs : List ℕ) → ((v : ℕ) → among v xs ≡ true → P v) → AllByRecursion P xs
 all_among P [] each = tt
 all_among P (x ∷ xs) each = (each x (among_here x xs), all_among P xs (λ v on. each v (among_later v x xs on)))
 
@@ -65,7 +65,7 @@ module _ (f : ℕ → Option ℕ) where
       let (ys, way) = way_rest v vs v x a.0 on_a in
       cycle_low w ws v b (cycle_stays (w ∷ ws) x ys v b on_b way)
 
-  above_fresh : (t : ℕ) (xs : List ℕ) → All (λ y. t < y) xs → Fresh t xs
+  above_fresh : (t : ℕ) (xs : List ℕ) → AllByRecursion (λ y. t < y) xs → Fresh t xs
   above_fresh t xs low = All-weaker (λ y. t < y) (λ y. t ≡ y → ⊥) (λ y lt e. omega arith) xs low
 
   -- a cycle meets no vertex twice
@@ -81,7 +81,7 @@ module _ (f : ℕ → Option ℕ) where
       let up : w ≤ v = cycle_lowest_on v vs w ws x a b on_a on_b in
       let down : v ≤ w = cycle_lowest_on w ws v vs x b a on_b on_a in
       let e : w ≡ v = omega arith in
-      ap (λ l. v ∷ l) (way_once f v vs ws v (above_fresh v vs a.1) (above_fresh v ws (subst (λ t. All (λ y. t < y) ws) e b.1)) a.0 (subst (λ t. Way f t ws t) e b.0)) ∙ ap (λ t. t ∷ ws) (sym e)
+      ap (λ l. v ∷ l) (way_once f v vs ws v (above_fresh v vs a.1) (above_fresh v ws (subst (λ t. AllByRecursion (λ y. t < y) ws) e b.1)) a.0 (subst (λ t. Way f t ws t) e b.0)) ∙ ap (λ t. t ∷ ws) (sym e)
 
 -- every vertex of a cycle has an arrow, and where the arrows lead from one is on the cycle
 pub cycle_arrow : (f : ℕ → Option ℕ) (c : List ℕ) (x : ℕ) → Cycle f c → among x c ≡ true → (y : ℕ) × (f x ≡ Some y)

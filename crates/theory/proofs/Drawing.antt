@@ -1,7 +1,7 @@
 -- What holds of a draw after any calls: its heights come from popping cycles, and no cycle is left on settled vertices. Assumes nothing.
 use Rattle.std.proofs.Common.{◌≡◌, ℕ, zero, suc, ◌+◌, ◌<◌, ◌≤◌, Bool, true, false, cond, not, ◌&&◌, ◌||◌, eqb, ltb, ◌⊎◌, List, [], ◌∷◌, ◌++◌, map, length, get_or, drop, set, is_ok, Some, None, Ok, Err, Option, Result, sym, refl, ap, ◌∙◌, subst, inl, inr, ⊎_elim, append_assoc, append-nil, add-one, arith, length-append, length-drop, MatchOption}
 use mathlib.Core.Path.{fun_ext}
-use Rattle.std.specs.List.{AllByRecursion as All}
+use Rattle.std.specs.List.{AllByRecursion}
 use Rattle.std.proofs.lemmas.List.{set_at, drop_more, length-map, map_push}
 use Rattle.std.proofs.lemmas.Bool.{false≢true, cases_Bool, both_ways, or_cases, or_left, or_right, ltb-true, eq-eqb, and_from, not-false, cases_lt}
 use Rattle.model.specs.Arrows.{Arrows, Cells, counts, sight}
@@ -59,8 +59,8 @@ module _ (p : Layout) (a : Cells) (sound : Sound p) where
   pub shown_stays : (es : List Entry) → Stays (shown p a es) p.size
   shown_stays es = stays (sight p a) p.size 4096 (sight_within p a sound) (height_of es)
 
-  pub inside : (es : List Entry) → length es ≡ p.size → (c : List ℕ) → Cycle (shown p a es) c → All (λ v. v < length es) c
-  inside es sized c cyc = subst (λ n. All (λ v. v < n) c) (sym sized) (cycle_below (shown p a es) p.size (shown_stays es) c cyc)
+  pub inside : (es : List Entry) → length es ≡ p.size → (c : List ℕ) → Cycle (shown p a es) c → AllByRecursion (λ v. v < length es) c
+  inside es sized c cyc = subst (λ n. AllByRecursion (λ v. v < n) c) (sym sized) (cycle_below (shown p a es) p.size (shown_stays es) c cyc)
 
   -- ---- popping a cycle of open vertices
   module _ (es : List Entry) (sane : Sane es) (c : List ℕ) (cyc : Cycle (shown p a es) c) (opens : (x : ℕ) → among x c ≡ true → is_settled es x ≡ false) where
@@ -86,7 +86,7 @@ module _ (p : Layout) (a : Cells) (sound : Sound p) where
     }
 
   -- ---- settling a trail that leaves
-  module _ (es : List Entry) (sane : Sane es) (path : List ℕ) (within : All (λ v. v < length es) path)
+  module _ (es : List Entry) (sane : Sane es) (path : List ℕ) (within : AllByRecursion (λ v. v < length es) path)
       (leaves : (x : ℕ) → among x path ≡ true → Leaves (shown p a es) (is_settled es) x) (under : ClosedUnder (shown p a es) (is_settled es) path) where
     same_sight : shown p a (changed shut path es) ≡ shown p a es
     same_sight = ap (seen (sight p a)) (fun_ext (settled_heights path es))
@@ -180,13 +180,13 @@ module _ (p : Layout) (a : Cells) (sound : Sound p) where
         listed = list_more cs k l h.list h.draw.pops good.counted good.listed room;
       }
 
-  settle_good : (l : List Pop) (h : Held) (cs : List Coloured) → Good l h cs → (path : List ℕ) → All (λ v. v < p.size) path
+  settle_good : (l : List Pop) (h : Held) (cs : List Coloured) → Good l h cs → (path : List ℕ) → AllByRecursion (λ v. v < p.size) path
       → ((x : ℕ) → among x path ≡ true → Leaves (shown p a h.draw.entries) (is_settled h.draw.entries) x) → ClosedUnder (shown p a h.draw.entries) (is_settled h.draw.entries) path → Keeps l cs (settles h path)
   settle_good l h cs good path low leaves under =
       let es = h.draw.entries in
       same_good l (settles h path).held cs (record {
         rooted = good.rooted;
-        sane = settle_sane es good.sane path (subst (λ n. All (λ v. v < n) path) (sym good.sane.sized) low) leaves under;
+        sane = settle_sane es good.sane path (subst (λ n. AllByRecursion (λ v. v < n) path) (sym good.sane.sized) low) leaves under;
         popped = subst (Pops (sight p a) flat cs) (sym (fun_ext (settled_heights path es))) good.popped;
         counted = good.counted;
         listed = good.listed;

@@ -2,7 +2,7 @@
 use Rattle.std.proofs.Common.{◌≡◌, ℕ, zero, suc, ◌+◌, ◌-◌, ◌<◌, ◌≤◌, Bool, true, false, cond, eqb, ltb, ◌⊎◌, List, [], ◌∷◌, length, Some, None, Option, sym, refl, ap, ◌∙◌, subst, inl, inr, ⊎_elim, arith, MatchOption}
 use mathlib.Core.Path.{fun_ext}
 use Rattle.std.specs.Option.{option_map}
-use Rattle.std.specs.List.{AllByRecursion as All}
+use Rattle.std.specs.List.{AllByRecursion}
 use Rattle.std.proofs.lemmas.Bool.{eqb-true, eq-eqb, ne_eqb, ltb-true, lt-ltb, cases_lt, cases_Bool}
 use Rattle.model.specs.Ways.{Way}
 use Rattle.model.specs.Arrows.{Arrows}
@@ -19,7 +19,7 @@ use Rattle.model.proofs.Ways.{none_some, same_some, way_all}
 module _ (f : ℕ → Option ℕ) (v : ℕ) where
   -- c is the way from u back to v over vertices above v
   abbrev Closed : ℕ → List ℕ → Type 0
-  Closed u c = (vs : List ℕ) × (c ≡ u ∷ vs) × Way f u vs v × All (λ x. v < x) vs
+  Closed u c = (vs : List ℕ) × (c ≡ u ∷ vs) × Way f u vs v × AllByRecursion (λ x. v < x) vs
 
   abbrev turn : ℕ → ℕ → ℕ → Option (List ℕ)
   turn k u w = cond (eqb w v) (Some (u ∷ [])) (cond (ltb v w) (option_map (λ xs. u ∷ xs) (closes f v k w)) None)
@@ -46,7 +46,7 @@ module _ (f : ℕ → Option ℕ) (v : ℕ) where
       by None none rest is = absurd (none_some None c refl is)
       by (Some w) arrow rest is = turn_closed k u w c arrow (rest w) is
 
-  closed_closes : (k u : ℕ) (vs : List ℕ) → length vs < k → Way f u vs v → All (λ x. v < x) vs → closes f v k u ≡ Some (u ∷ vs)
+  closed_closes : (k u : ℕ) (vs : List ℕ) → length vs < k → Way f u vs v → AllByRecursion (λ x. v < x) vs → closes f v k u ≡ Some (u ∷ vs)
   closed_closes zero u vs short way low = absurd (omega arith)
   closed_closes (suc k) u [] short way low = ap (λ o. then o (turn k u)) way ∙ ap (λ b. cond b (Some (u ∷ [])) (cond (ltb v v) (option_map (λ xs. u ∷ xs) (closes f v k v)) None)) (eq-eqb v v refl)
   closed_closes (suc k) u (x ∷ xs) short (arrow, way) (up, low) =
@@ -65,7 +65,7 @@ module _ (f : ℕ → Option ℕ) (n : ℕ) (stays : Stays f n) where
   way_from u [] w way = stays.from u w way
   way_from u (x ∷ xs) w (arrow, way) = stays.from u x arrow
 
-  pub cycle_below : (c : List ℕ) → Cycle f c → All (λ x. x < n) c
+  pub cycle_below : (c : List ℕ) → Cycle f c → AllByRecursion (λ x. x < n) c
   cycle_below [] cyc = absurd cyc
   cycle_below (v ∷ vs) (way, low) = (way_from v vs v way, way_all f (λ x. x < n) stays.to v vs v way)
 

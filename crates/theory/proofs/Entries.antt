@@ -1,6 +1,6 @@
 -- What raising and settling leave of heights and marks. Assumes nothing.
 use Rattle.std.proofs.Common.{◌≡◌, ℕ, zero, suc, ◌+◌, ◌<◌, ◌≤◌, Bool, true, false, cond, ◌||◌, List, [], ◌∷◌, ◌++◌, map, length, get_or, set, sym, refl, ap, ◌∙◌, subst, ⊎_elim, add-zero, add-suc, arith}
-use Rattle.std.specs.List.{range_with_len, AllByRecursion as All}
+use Rattle.std.specs.List.{range_with_len, AllByRecursion}
 use Rattle.std.proofs.lemmas.List.FromFn.{length-map-range_with_len, get_or-map-range_with_len}
 use Rattle.std.proofs.lemmas.List.{get_or_past}
 use Rattle.std.proofs.lemmas.Bool.{cases_lt, cases_Bool, eqb-true, eqb-false, eq-eqb}
@@ -71,7 +71,7 @@ module _ (f : Entry → Entry) where
       more_from c v 0 es v (omega arith) within off ∙ ap (λ e. set (changed f c es) v (f e)) (sym (changed_off f c es v off))
 
 -- c lies among the entries
-module _ (c : List ℕ) (es : List Entry) (inside : All (λ v. v < length es) c) where
+module _ (c : List ℕ) (es : List Entry) (inside : AllByRecursion (λ v. v < length es) c) where
   outside : (v : ℕ) → length es ≤ v → among v c ≡ false
   outside v past = ⊎_elim (λ on. absurd (let lt : v < length es = among_all (λ x. x < length es) v c inside on in omega arith)) (λ off. off) (cases_Bool (among v c))
 

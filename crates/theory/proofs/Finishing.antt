@@ -1,6 +1,6 @@
 -- A run by any order that picks open vertices stops as ended, if its budget reaches the end's cycles plus the vertices and its list has room for those cycles. Assumes nothing.
 use Rattle.std.proofs.Common.{◌≡◌, ℕ, zero, suc, ◌+◌, ◌-◌, ◌<◌, ◌≤◌, Bool, true, false, cond, not, ◌&&◌, ◌||◌, eqb, ltb, ◌⊎◌, List, [], ◌∷◌, ◌++◌, map, length, get_or, drop, is_ok, Some, None, Ok, Err, Option, Result, sym, refl, ap, ◌∙◌, subst, inl, inr, ⊎_elim, append-nil, arith, length-append, length-drop, MatchOption}
-use Rattle.std.specs.List.{AllByRecursion as All}
+use Rattle.std.specs.List.{AllByRecursion}
 use Rattle.std.proofs.lemmas.List.{length-map, get_or-map}
 use Rattle.std.proofs.lemmas.Bool.{false≢true, true≢false, cases_Bool, both_ways, eq-eqb, lt-ltb, not-true, not-false, or_right, or_left, and_from}
 use Rattle.model.specs.Arrows.{Cells, sight}

@@ -1,19 +1,19 @@
 -- What stands in lists that are made of others, and where nothing stands twice in them. Assumes nothing.
 use Rattle.std.proofs.Common.{◌≡◌, ℕ, zero, suc, ◌+◌, ◌<◌, ◌≤◌, Bool, true, false, cond, ◌⊎◌, List, [], ◌∷◌, ◌++◌, map, filter, sym, refl, ap, ◌∙◌, subst, inl, inr, arith}
-use Rattle.std.specs.List.{range_with_len, flat_map, AllByRecursion as All}
+use Rattle.std.specs.List.{range_with_len, flat_map, AllByRecursion}
 use Rattle.std.proofs.ByRecursion.{All-append, all_kept_by}
 use Rattle.std.proofs.lemmas.Bool.{cases_eq}
 use Rattle.model.specs.Distinct.{In, Fresh, Distinct}
 
 module _ {X : Type 0} (P : X → Type 0) where
   -- what holds of all holds of each
-  pub all_in : (xs : List X) (x : X) → All P xs → In x xs → P x
+  pub all_in : (xs : List X) (x : X) → AllByRecursion P xs → In x xs → P x
   all_in [] x all never = absurd never
   all_in (y ∷ ys) x (first, all) (inl here) = subst P (sym here) first
   all_in (y ∷ ys) x (first, all) (inr later) = all_in ys x all later
 
   -- and the other way round
-  pub all_from_in : (xs : List X) → ((x : X) → In x xs → P x) → All P xs
+  pub all_from_in : (xs : List X) → ((x : X) → In x xs → P x) → AllByRecursion P xs
   all_from_in [] each = tt
   all_from_in (y ∷ ys) each = (each y (inl refl), all_from_in ys (λ x later. each x (inr later)))
 
@@ -37,7 +37,7 @@ module _ {X : Type 0} where
       on (inr second) = inr second
 
   -- two lists that share nothing
-  pub distinct_append : (xs ys : List X) → Distinct xs → Distinct ys → All (λ x. Fresh x ys) xs → Distinct (xs ++ ys)
+  pub distinct_append : (xs ys : List X) → Distinct xs → Distinct ys → AllByRecursion (λ x. Fresh x ys) xs → Distinct (xs ++ ys)
   distinct_append [] ys dx dy apart = dy
   distinct_append (x ∷ xs) ys (fresh, dx) dy (off, apart) = (All-append (λ y. x ≡ y → ⊥) xs ys fresh off, distinct_append xs ys dx dy apart)
 
@@ -53,11 +53,11 @@ module _ {X Y : Type 0} (f : X → Y) where
   map_in (z ∷ xs) y (inr later) = let (x, there, is) = map_in xs y later in (x, inr there, is)
 
   -- where g undoes f, different values have different images
-  pub distinct_map : (g : Y → X) (xs : List X) → All (λ x. g (f x) ≡ x) xs → Distinct xs → Distinct (map f xs)
+  pub distinct_map : (g : Y → X) (xs : List X) → AllByRecursion (λ x. g (f x) ≡ x) xs → Distinct xs → Distinct (map f xs)
   distinct_map g [] undone d = tt
   distinct_map g (x ∷ xs) (back, undone) (fresh, d) = (apart xs undone fresh, distinct_map g xs undone d)
     where
-      apart : (ys : List X) → All (λ y. g (f y) ≡ y) ys → Fresh x ys → Fresh (f x) (map f ys)
+      apart : (ys : List X) → AllByRecursion (λ y. g (f y) ≡ y) ys → Fresh x ys → Fresh (f x) (map f ys)
       apart [] backs off = tt
       apart (y ∷ ys) (b, backs) (o, off) = ((λ same. o (sym back ∙ ap g same ∙ b)), apart ys backs off)
 

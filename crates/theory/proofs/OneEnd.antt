@@ -1,5 +1,5 @@
 -- Every way of working a draw comes to one end, and no tree is favoured: the proof. Assumes nothing.
-use Rattle.std.proofs.Common.{◌≡◌, ℕ, ◌+◌, ◌<◌, ◌≤◌, Bool, true, false, cond, not, ◌&&◌, eqb, ltb, ◌⊎◌, List, [], ◌∷◌, ◌++◌, map, length, get_or, take, drop, replicate, Some, None, count_by, Option, Result, sym, refl, ap, ◌∙◌, subst, inl, inr, ⊎_elim, arith, MatchOption}
+use Rattle.std.proofs.Common.{◌≡◌, ℕ, ◌+◌, ◌<◌, ◌≤◌, Bool, true, false, cond, not, ◌&&◌, eqb, ltb, ◌⊎◌, List, [], ◌∷◌, ◌++◌, map, length, get_or, take, drop, replicate, Some, None, Ok, count_by, Option, Result, sym, refl, ap, ◌∙◌, subst, inl, inr, ⊎_elim, arith, MatchOption}
 use mathlib.Core.Path.{fun_ext}
 use Rattle.std.specs.Option.{option_or}
 use Rattle.std.specs.List.Sorted.{IsPermutation}
@@ -9,15 +9,16 @@ use Rattle.std.proofs.lemmas.Bool.{eqb-true, eq-eqb, eqb-false, and_parts, and_f
 use Rattle.model.specs.Arrows.{Cells, visible, sight, is_dry}
 use Rattle.theory.specs.Calls.{Strategy, Call, run, does, worked, popped_by, start, none_open, first_fault}
 use Rattle.theory.specs.Cycles.{Heights, flat, Coloured, Pops}
+use Rattle.model.specs.Depths.{cells_fault}
 use Rattle.model.specs.Distinct.{In}
 use Rattle.theory.specs.Draws.{Held, is_of, height_of, record_of}
 use Rattle.theory.specs.Endings.{ports_at, lowest_dry, dry_fault, written, trees}
 use Rattle.theory.specs.Fillings.{drained, Filling, fillings}
 use Rattle.model.specs.Layouts.{Layout, Sound, is_root}
-use Rattle.theory.specs.OneEnd.{Over, SaysTree, heights_of, end_tree, AtEnd, Finishes, OnTheWay, Agree, Reseats, all_show, ends_in, OneEnd}
+use Rattle.theory.specs.OneEnd.{Over, SaysTree, heights_of, end_tree, AtEnd, Finishes, OnTheWay, Agree, Reseats, all_show, ends_in, OneEnd, OneEndByCalls}
 use Rattle.theory.specs.Outcomes.{end_of, Lawful}
 use Rattle.model.specs.Picks.{passes, lowest}
-use Rattle.theory.specs.Reseats.{cells_of, reseated, Shows}
+use Rattle.theory.specs.Reseats.{cells_of, reseated, reseats_to, Shows}
 use Rattle.model.specs.Trees.{IsTree}
 use Rattle.model.specs.declared.draw.Pop.{Pop}
 use Rattle.model.specs.declared.fault.DrawFault.{DrawFault}
@@ -48,7 +49,7 @@ module _ (p : Layout) (a : Cells) (sound : Sound p) (l : List Pop) (calls : List
   -- the answer for the tree, by what it depends on
   abbrev answer : Bool → Bool → Heights → List ℕ → Result (Unit {0}) DrawFault × List ℕ
   answer of_plan over h ports =
-      written (option_or (first_fault ((not of_plan, fault.OtherPlan) ∷ (ltb (length ports) p.size, fault.Short) ∷ [])) (option_or (first_fault ((not over, fault.StillOpen) ∷ [])) (dry_fault (lowest_dry p a h))))
+      written (option_or (first_fault ((not of_plan, fault.OtherPlan) ∷ (ltb (length ports) p.size, fault.Short) ∷ (not over, fault.StillOpen) ∷ [])) (dry_fault (lowest_dry p a h)))
       ports (ports_at p a h ++ drop p.size ports)
 
   at_end : Over w → AtEnd p a w cs
@@ -150,7 +151,7 @@ is_tree : (p : Layout) → Sound p → (u : List ℕ) → SaysTree p u → IsTre
 is_tree p sound u says = (tree_law p sound u).yes says
 
 reseats : (p : Layout) (depth : ℕ) (F t u : List ℕ) (l : List Pop) (calls : List Call) → Sound p → depth ≤ 4096 → In F (fillings p depth) → SaysTree p u
-    → let a = cells_of p depth F in let w = worked p a calls (start p l) in Over w → Shows p a (heights_of w) t → Reseats p depth F t u w (popped_by p a calls (start p l))
+    → let a = cells_of p depth F in let w = worked p a calls (start p l) in Over w → Shows p a (heights_of w) t → Reseats p depth F t u (heights_of w) (popped_by p a calls (start p l))
 reseats p depth F t u l calls sound deep listed says over shows =
     let a = cells_of p depth F in
     let h = heights_of (worked p a calls (start p l)) in
@@ -160,8 +161,6 @@ reseats p depth F t u l calls sound deep listed says over shows =
     let (shuffled, same) = reseated_end p sound depth deep F filling h t u shows tree (popped_by p a calls (start p l)) (calls_good p a sound l calls).popped in
     record {
       filling = fillings_all p depth (reseated p depth h u F) (reseated_filling p sound depth deep F filling h t u shows tree);
-      call = λ limits.
-          reseats_filling p sound (worked p a calls (start p l)).draw depth F t u limits filling (is_of_plan p a sound l (worked p a calls (start p l)) (popped_by p a calls (start p l)) (calls_good p a sound l calls)) over shows says tree.enough;
       any = λ m others over2.
           let end = at_end p new sound m others over2 in
           let level : h ≡ heights_of (worked p new others (start p m)) = fun_ext (λ v. same v ∙ sym (end.heights v)) in (
@@ -207,3 +206,17 @@ one_end = record {
   as_many = λ p depth t u sound deep tree_t tree_u. count_same (fillings p depth) (ends_in p depth t) (ends_in p depth u) (λ F. reseated p depth (end_heights p depth F) u F) (λ F. reseated p depth (end_heights p depth F) t F)
       (fillings_once p depth) (there_and_back p depth t u sound deep tree_u) (there_and_back p depth u t sound deep tree_t);
 }
+
+-- ---- the call of reseating
+
+reseat_gives : (p : Layout) (depth : ℕ) (F t u : List ℕ) (l : List Pop) (calls : List Call) → Sound p → depth ≤ 4096 → In F (fillings p depth) → SaysTree p u
+    → let a = cells_of p depth F in let w = worked p a calls (start p l) in Over w → Shows p a (heights_of w) t → cells_fault p.size depth ≡ None
+    → reseats_to p w.draw depth F u ≡ (Ok tt, reseated p depth (heights_of w) u F)
+reseat_gives p depth F t u l calls sound deep listed says over shows limits =
+    let a = cells_of p depth F in
+    let w = worked p a calls (start p l) in
+    let good = is_of_plan p a sound l w (popped_by p a calls (start p l)) (calls_good p a sound l calls) in
+    reseats_filling p sound w.draw depth F t u limits (fillings_only p depth F listed) good over shows says (is_tree p sound u says).enough
+
+pub one_end_by_calls : OneEndByCalls
+one_end_by_calls = record { one_end = one_end; reseat_gives = reseat_gives }

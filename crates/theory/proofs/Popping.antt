@@ -1,7 +1,7 @@
 -- The abelian property: legal popping sequences that end have the same cycles, whatever their turn, and the same heights. Assumes nothing.
 use Rattle.std.proofs.Common.{◌≡◌, ℕ, suc, ◌<◌, ◌≤◌, true, false, ◌⊎◌, List, [], ◌∷◌, ◌++◌, sym, refl, ap, ◌∙◌, subst, inl, inr, ⊎_elim, arith}
 use mathlib.Core.Path.{fun_ext}
-use Rattle.std.specs.List.{AllByRecursion as All}
+use Rattle.std.specs.List.{AllByRecursion}
 use Rattle.std.specs.List.Sorted.{IsPermutation}
 use Rattle.std.proofs.ByRecursion.{All-weaker}
 use Rattle.std.proofs.lemmas.List.Sorted.{IsPermutation-refl, IsPermutation-cons, IsPermutation-trans, IsPermutation-swap}
@@ -64,7 +64,7 @@ module _ (arrows : Arrows) where
 
 -- the heights of k are at or above h
 abbrev Above : Heights → Coloured → Type 0
-Above h k = All (λ (x : ℕ × ℕ). h x.0 ≤ x.1) k
+Above h k = AllByRecursion (λ (x : ℕ × ℕ). h x.0 ≤ x.1) k
 
 above_self : (h : Heights) (c : List ℕ) → Above h (coloured h c)
 above_self h [] = tt
@@ -75,7 +75,7 @@ above_lower h g up [] all = tt
 above_lower h g up ((v, n) ∷ more) (here, all) = (let le : h v ≤ g v = up v in omega arith, above_lower h g up more all)
 
 module _ (arrows : Arrows) where
-  pops_above : (h : Heights) (ks : List Coloured) (h2 : Heights) → Pops arrows h ks h2 → All (Above h) ks
+  pops_above : (h : Heights) (ks : List Coloured) (h2 : Heights) → Pops arrows h ks h2 → AllByRecursion (Above h) ks
   pops_above h [] h2 same = tt
   pops_above h (k ∷ ks) h2 (c, cyc, is, rest) = (
     subst (Above h) (sym is) (above_self h c),

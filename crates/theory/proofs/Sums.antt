@@ -1,7 +1,7 @@
 -- The recorded lengths add up to the sum of the heights. Assumes nothing.
 use Rattle.std.proofs.Common.{◌≡◌, ℕ, zero, suc, ◌+◌, ◌<◌, ◌≤◌, Bool, true, false, cond, ◌||◌, eqb, ltb, List, [], ◌∷◌, map, length, take, drop, sym, refl, ap, ◌∙◌, subst, ⊎_elim, arith}
 use mathlib.Core.Path.{fun_ext}
-use Rattle.std.specs.List.{AllByRecursion as All}
+use Rattle.std.specs.List.{AllByRecursion}
 use Rattle.std.proofs.lemmas.List.{length-map, take_at}
 use Rattle.std.proofs.lemmas.Bool.{eqb-true, eqb-false, eq-eqb, lt-ltb, le-ltb, ltb-true, ltb-false, cases_Bool, both_ways}
 use Rattle.model.specs.Arrows.{Arrows, Cells, sight}
@@ -54,7 +54,7 @@ on_more v vs fresh (suc n) = by (eqb n v) refl (on_more v vs fresh n)
         (cases_Bool (ltb v n))) in
         omega arith
 
-on_length : (c : List ℕ) (n : ℕ) → Distinct c → All (λ v. v < n) c → on_below c n ≡ length c
+on_length : (c : List ℕ) (n : ℕ) → Distinct c → AllByRecursion (λ v. v < n) c → on_below c n ≡ length c
 on_length [] n d low = on_none n
 on_length (v ∷ vs) n (fresh, d) (here, low) =
     let one : cond {A = ℕ} (ltb v n) 1 0 ≡ 1 = ap (λ b. cond {A = ℕ} b 1 0) (lt-ltb v n here) in

@@ -1,6 +1,6 @@
 -- What the trail of a vertex shows: a cycle that is left to pop, or vertices from which no cycle can be reached. Assumes nothing.
 use Rattle.std.proofs.Common.{◌≡◌, ℕ, zero, suc, ◌+◌, ◌<◌, ◌≤◌, min, Bool, true, false, cond, ◌||◌, eqb, ◌⊎◌, List, [], ◌∷◌, ◌++◌, length, Some, None, Option, sym, refl, ap, ◌∙◌, subst, inl, inr, ⊎_elim, append-nil, arith, length-append, MatchOption}
-use Rattle.std.specs.List.{AllByRecursion as All}
+use Rattle.std.specs.List.{AllByRecursion}
 use Rattle.std.proofs.ByRecursion.{All-push, All-weaker, All-append}
 use Rattle.std.proofs.lemmas.Bool.{eqb-true, eqb-false, eq-eqb, ne_eqb, false≢true, cases_Bool, cases_lt, both_ways}
 use Rattle.theory.specs.Cycles.{among, Cycle}
@@ -134,7 +134,7 @@ module _ (f : ℕ → Option ℕ) where
     λ x on. ⊎_elim (λ left. inr (ys, is, left)) (λ right. inl (subst (λ l. among x l ≡ true) (sym some) right)) (among_parts x ys (u ∷ us) on),
   )
 
-least_low : (v : ℕ) (xs : List ℕ) → (least v xs ≤ v) × All (λ y. least v xs ≤ y) xs
+least_low : (v : ℕ) (xs : List ℕ) → (least v xs ≤ v) × AllByRecursion (λ y. least v xs ≤ y) xs
 least_low v [] = (omega arith, tt)
 least_low v (x ∷ xs) =
     let (low, rest) = least_low (min v x) xs in
@@ -204,7 +204,7 @@ pub record Round (f : ℕ → Option ℕ) (path l : List ℕ) : Type 0 where
 
 -- what a trail tells: its vertices are below n, open and different; it came round, or it leaves
 pub record Told (f : ℕ → Option ℕ) (settled : ℕ → Bool) (n : ℕ) (t : Trail) : Type 0 where
-  pub inside : All (λ x. x < n) t.path
+  pub inside : AllByRecursion (λ x. x < n) t.path
   pub all_open : (x : ℕ) → among x t.path ≡ true → settled x ≡ false
   pub distinct : Distinct t.path
   pub ends : MatchOption t.loop (((x : ℕ) → among x t.path ≡ true → Leaves f settled x) × ClosedUnder f settled t.path) (λ l. Round f t.path l)
@@ -227,7 +227,7 @@ module _ (f : ℕ → Option ℕ) (settled : ℕ → Bool) (n : ℕ) (below : (u
   chain_next [] v chain x y on arrow = absurd (false≢true on)
   chain_next (u ∷ us) v chain x y on arrow = ⊎_elim (λ later. inl (among_later y u us later)) inr (way_next f u us v x y chain on arrow)
 
-  chain_below : (path : List ℕ) (v : ℕ) → Chain path v → All (λ x. x < n) path
+  chain_below : (path : List ℕ) (v : ℕ) → Chain path v → AllByRecursion (λ x. x < n) path
   chain_below [] v chain = tt
   chain_below (u ∷ us) v chain = all_among (λ x. x < n) (u ∷ us) (λ x on. from_way x (way_rest f u us v x chain on))
     where

@@ -1,6 +1,6 @@
 -- The law of a try: it pops exactly if the way along visible arrows closes, and else settles exactly the open vertices of that way. Assumes nothing.
 use Rattle.std.proofs.Common.{◌≡◌, ℕ, zero, suc, ◌+◌, ◌<◌, ◌≤◌, Bool, true, false, cond, not, ◌||◌, ltb, ◌⊎◌, List, [], ◌∷◌, ◌++◌, length, get_or, set, IfSome, Some, None, Ok, Err, Option, Result, sym, refl, ap, ◌∙◌, subst, inl, inr, ⊎_elim, append_assoc, append-nil, arith, MatchOption}
-use Rattle.std.specs.List.{AllByRecursion as All}
+use Rattle.std.specs.List.{AllByRecursion}
 use Rattle.std.proofs.lemmas.Bool.{false≢true, true≢false, cases_Bool, both_ways, or_cases, or_left, or_right, ltb-true, ltb-false, not-false, eqb-true, and_parts}
 use Rattle.model.specs.Arrows.{Cells}
 use Rattle.model.specs.Distinct.{Distinct}
@@ -205,7 +205,7 @@ module _ (p : Layout) (a : Cells) (v : ℕ) (h : Held) where
     unchanged = λ d is. refl;
   }
 
-  popped_law : (c : List ℕ) → All (λ x. x < length es) c → Closes (open_arrows p a es) v c → TryLaw p a v h (pops_cycle h c).held (pops_cycle h c).answer
+  popped_law : (c : List ℕ) → AllByRecursion (λ x. x < length es) c → Closes (open_arrows p a es) v c → TryLaw p a v h (pops_cycle h c).held (pops_cycle h c).answer
   popped_law c inside closes = record {
     popped = λ r is.
         let same : r ≡ record_of (coloured (height_of es) c) = same_pop _ r is in (
@@ -224,7 +224,7 @@ module _ (p : Layout) (a : Cells) (v : ℕ) (h : Held) where
     unchanged = λ e is. absurd (ok_err _ e is);
   }
 
-  settled_law : (path : List ℕ) → All (λ x. x < length es) path → Distinct path → ((x : ℕ) → among x path ≡ true → is_settled es x ≡ false) → EndedTrail (shown p a es) (is_settled es) v path
+  settled_law : (path : List ℕ) → AllByRecursion (λ x. x < length es) path → Distinct path → ((x : ℕ) → among x path ≡ true → is_settled es x ≡ false) → EndedTrail (shown p a es) (is_settled es) v path
       → TryLaw p a v h (settles h path).held (settles h path).answer
   settled_law path inside distinct opens ended = record {
     popped = λ r is. absurd (settled_popped _ r is);
@@ -267,14 +267,14 @@ module _ (p : Layout) (a : Cells) (v : ℕ) (h : Held) where
         told : Told (shown p a es) (is_settled es) p.size t
         told = shown_to p a sound es v low
 
-        inside : All (λ x. x < length es) t.path
-        inside = subst (λ n. All (λ x. x < n) t.path) (sym sized) told.inside
+        inside : AllByRecursion (λ x. x < length es) t.path
+        inside = subst (λ n. AllByRecursion (λ x. x < n) t.path) (sym sized) told.inside
 
-        on_loop : (o : Option (List ℕ)) → t.loop ≡ o → IfSome o (λ l. All (λ x. x < length es) (turned l))
+        on_loop : (o : Option (List ℕ)) → t.loop ≡ o → IfSome o (λ l. AllByRecursion (λ x. x < length es) (turned l))
         on_loop None is = tt
         on_loop (Some l) is = from_round t.loop is told.ends
           where
-            from_round : (o : Option (List ℕ)) → o ≡ Some l → MatchOption o (((x : ℕ) → among x t.path ≡ true → Leaves (shown p a es) (is_settled es) x) × ClosedUnder (shown p a es) (is_settled es) t.path) (λ l2. Round (shown p a es) t.path l2) → All (λ x. x < length es) (turned l)
+            from_round : (o : Option (List ℕ)) → o ≡ Some l → MatchOption o (((x : ℕ) → among x t.path ≡ true → Leaves (shown p a es) (is_settled es) x) × ClosedUnder (shown p a es) (is_settled es) t.path) (λ l2. Round (shown p a es) t.path l2) → AllByRecursion (λ x. x < length es) (turned l)
             from_round None none _ = absurd (none_some None l refl none)
             from_round (Some l2) same round =
                 let e : l2 ≡ l = same_some (Some l2) l2 l refl same in

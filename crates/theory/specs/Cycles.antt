@@ -1,6 +1,6 @@
 -- Cycles of arrows, and popping them. An arrow has a vertex and a height: `arrows v k` is where the arrow of v at height k leads. Assumes nothing.
 use Rattle.std.specs.Prelude.{◌≡◌, ℕ, suc, ◌<◌, ◌≤◌, Bool, false, cond, ◌||◌, List, [], ◌∷◌, map, Option, ◌==◌}
-use Rattle.std.specs.List.{AllByRecursion as All}
+use Rattle.std.specs.List.{AllByRecursion}
 use Rattle.model.specs.Arrows.{Arrows}
 use Rattle.model.specs.Ways.{Way}
 
@@ -23,7 +23,7 @@ among v (x ∷ xs) = v == x || among v xs
 -- a cycle of the arrows f: from its lowest vertex along the arrows back to it
 abbrev pub Cycle : (ℕ → Option ℕ) → List ℕ → Type 0
 Cycle f [] = ⊥
-Cycle f (v ∷ vs) = Way f v vs v × All (λ x. v < x) vs
+Cycle f (v ∷ vs) = Way f v vs v × AllByRecursion (λ x. v < x) vs
 
 -- a coloured cycle: the vertices of a cycle, each with its height
 abbrev pub Coloured : Type 0

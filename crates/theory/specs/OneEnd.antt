@@ -70,14 +70,13 @@ pub record Agree (p : Layout) (a : Cells) (g h : Held) (bs cs : List Coloured) :
   pub dry : (v : ℕ) → is_dry p a v (heights_of g v) ≡ is_dry p a v (heights_of h v)
   pub tree : (buffer : List ℕ) → trees p a g.draw buffer ≡ trees p a h.draw buffer
 
--- what reseating F to the tree u gives, where a draw w over F ended in the tree t and popped cs: a filling; the call gives it at every depth within the limits; any draw over it that has
--- ended popped the same cycles, shows the tree u, and gives back every cell when it reseats to t; and there is such a draw
-pub record Reseats (p : Layout) (depth : ℕ) (F t u : List ℕ) (w : Held) (cs : List Coloured) : Type 0 where
-  pub filling : In (reseated p depth (heights_of w) u F) (fillings p depth)
-  pub call : cells_fault p.size depth ≡ None → reseats_to p w.draw depth F u ≡ (Ok tt, reseated p depth (heights_of w) u F)
-  pub any : (l : List Pop) (calls : List Call) → let G = reseated p depth (heights_of w) u F in let a = cells_of p depth G in let x = worked p a calls (start p l) in Over x
-      → IsPermutation cs (popped_by p a calls (start p l)) × Shows p a (heights_of x) u × (reseated p depth (heights_of x) t G ≡ F)
-  pub some : (l : List Pop) × (calls : List Call) × Over (worked p (cells_of p depth (reseated p depth (heights_of w) u F)) calls (start p l))
+-- what reseating F to the tree u gives, where a draw over F ended at heights h in the tree t and popped cs: a filling; any draw over it that has ended popped the same cycles, shows
+-- the tree u, and gives back every cell when it reseats to t; and there is such a draw
+pub record Reseats (p : Layout) (depth : ℕ) (F t u : List ℕ) (h : Heights) (cs : List Coloured) : Type 0 where
+  pub filling : In (reseated p depth h u F) (fillings p depth)
+  pub any : (l : List Pop) (calls : List Call) → let a = cells_of p depth (reseated p depth h u F) in let w = worked p a calls (start p l) in Over w
+      → IsPermutation cs (popped_by p a calls (start p l)) × Shows p a (heights_of w) u × (reseated p depth (heights_of w) t (reseated p depth h u F) ≡ F)
+  pub some : (l : List Pop) × (calls : List Call) × Over (worked p (cells_of p depth (reseated p depth h u F)) calls (start p l))
 
 -- each of the vertices shows its port in t at the heights
 abbrev pub all_show : Layout → Cells → Heights → List ℕ → List ℕ → Bool
@@ -98,7 +97,7 @@ pub record OneEnd : Type 0 where
   pub agree : (p : Layout) (a : Cells) (l m : List Pop) (calls others : List Call) → Sound p → Over (worked p a calls (start p l)) → Over (worked p a others (start p m))
       → Agree p a (worked p a calls (start p l)) (worked p a others (start p m)) (popped_by p a calls (start p l)) (popped_by p a others (start p m))
   pub reseats : (p : Layout) (depth : ℕ) (F t u : List ℕ) (l : List Pop) (calls : List Call) → Sound p → depth ≤ 4096 → In F (fillings p depth) → SaysTree p u
-      → let a = cells_of p depth F in let w = worked p a calls (start p l) in Over w → Shows p a (heights_of w) t → Reseats p depth F t u w (popped_by p a calls (start p l))
+      → let a = cells_of p depth F in let w = worked p a calls (start p l) in Over w → Shows p a (heights_of w) t → Reseats p depth F t u (heights_of w) (popped_by p a calls (start p l))
   -- the fillings are listed, each once
   pub are_fillings : (p : Layout) (depth : ℕ) (F : List ℕ) → Sound p → (In F (fillings p depth) → Fills p depth F) × (Fills p depth F → In F (fillings p depth))
   pub each_once : (p : Layout) (depth : ℕ) → Distinct (fillings p depth)
@@ -106,3 +105,10 @@ pub record OneEnd : Type 0 where
   pub in_tree : (p : Layout) (depth : ℕ) (F t : List ℕ) (l : List Pop) (calls : List Call) → Sound p → let a = cells_of p depth F in let w = worked p a calls (start p l) in Over w
       → (ends_in p depth t F ≡ true → Shows p a (heights_of w) t) × (Shows p a (heights_of w) t → ends_in p depth t F ≡ true)
   pub as_many : (p : Layout) (depth : ℕ) (t u : List ℕ) → Sound p → depth ≤ 4096 → SaysTree p t → SaysTree p u → count_by (ends_in p depth t) (fillings p depth) ≡ count_by (ends_in p depth u) (fillings p depth)
+
+-- and what reseating to the tree u gives, where a draw over F ended in the tree t, is what the call of reseating gives, at every depth within the limits
+pub record OneEndByCalls : Type 0 where
+  pub one_end : OneEnd
+  pub reseat_gives : (p : Layout) (depth : ℕ) (F t u : List ℕ) (l : List Pop) (calls : List Call) → Sound p → depth ≤ 4096 → In F (fillings p depth) → SaysTree p u
+      → let a = cells_of p depth F in let w = worked p a calls (start p l) in Over w → Shows p a (heights_of w) t → cells_fault p.size depth ≡ None
+      → reseats_to p w.draw depth F u ≡ (Ok tt, reseated p depth (heights_of w) u F)

@@ -1,5 +1,5 @@
 -- What is written of a number is read back. Assumes nothing.
-use Rattle.std.proofs.Common.{◌≡◌, ℕ, zero, suc, ◌-◌, ◌/◌, ◌%◌, ◌^◌, ◌<◌, ◌≤◌, Bool, true, cond, ◌&&◌, leb, List, [], ◌∷◌, ◌++◌, map, length, Some, None, codes, decimal, Option, sym, refl, ap, ◌∙◌, ⊎_elim, append_assoc, pow-suc, arith}
+use Rattle.std.proofs.Common.{◌≡◌, ℕ, zero, suc, ◌-◌, ◌/◌, ◌%◌, ◌^◌, ◌<◌, ◌≤◌, Bool, true, cond, ◌&&◌, leb, List, [], ◌∷◌, ◌++◌, map, length, Some, None, codes, decimal, sym, refl, ap, ◌∙◌, ⊎_elim, append_assoc, pow-suc, arith}
 use Rattle.std.proofs.lemmas.Nat.{div_below}
 use Rattle.std.proofs.lemmas.Fmt.{decimal_is_IsNumeral}
 use Rattle.std.proofs.lemmas.Int.Digits.{digits_of_step, all_below_base_digits_of, number_digits_of, digits_value_is}
@@ -9,7 +9,7 @@ use Rattle.std.proofs.lemmas.Str.{digit_value-digit_char}
 use Rattle.std.specs.Str.Parse.{AllDigits, IsNumeral, digits_value}
 use Rattle.std.specs.Char.{digit_char, digit_value}
 use Rattle.std.specs.Int.Digits.{digits_of, number_from_digits, AllBelowBase}
-use Rattle.tokens.specs.Numbers.{all_digits, numeral, reading_of, number_of}
+use Rattle.tokens.specs.Numbers.{all_digits, numeral, reading_of}
 use Rattle.tokens.specs.Seeds.{seed_of, hex_digits, seed_text}
 
 digits_test : (base : ℕ) (bs : List ℕ) → AllDigits base bs → all_digits base bs ≡ true
@@ -27,10 +27,10 @@ reads base most n bs is writes within =
     ∙ ap (λ (t : Bool). cond t (Some n) None) (and_from _ _ (numeral_test base bs is) (le-leb n most within))
 
 -- a decimal number as it is written is read back
-pub number_back : (most : ℕ) (bs : List ℕ) (r : Option ℕ) → most < 2 ^ 32 → r ≡ number_of bs most → (n : ℕ) → n ≤ most → bs ≡ decimal n → r ≡ Some n
-number_back most bs r small is n within written =
+pub number_back : (most n : ℕ) → most < 2 ^ 32 → n ≤ most → reading_of 10 most (decimal n) ≡ Some n
+number_back most n small within =
     let back = decimal_is_IsNumeral n (omega arith) in
-    is ∙ ap (λ (l : List ℕ). number_of l most) written ∙ reads 10 most n (decimal n) back.0 back.1 within
+    reads 10 most n (decimal n) back.0 back.1 within
 
 hex_values : (ds : List ℕ) → AllBelowBase 16 ds → map digit_value (map digit_char ds) ≡ ds
 hex_values [] under = refl

@@ -35,6 +35,7 @@ pub(crate) fn reading(word: &[u8], base: u32, most: u64) -> Option<u64>
 }
 
 // A decimal number up to `most`; as `{}` writes such a number, it is read back.
+#[tactic(auto, using(crate::proofs::Writings::number_back))]
 pub fn number(word: &[u8], most: u32) -> Option<u32>
     ensures is { result ≡ number_of word.now most }
     ensures back { (n : ℕ) → n ≤ most → word.now ≡ decimal n → result ≡ Some n }

@@ -16,7 +16,7 @@ impl Running {
         arrows: &S,
         v: u16,
     ) -> Result<Tried, DrawFault>
-        ensures { (result, drawing_of self.new) ≡ tried (layout plan.now) (cells arrows.now) v (drawing_of self.old) }
+        ensures { (result, drawing_of self.new) ≡ tried (P.layout plan.now) (S.cells arrows.now) v (drawing_of self.old) }
     {
         self.draw.try_at(plan, arrows, self.list.as_mut_slice(), v)
     }
@@ -27,7 +27,7 @@ impl Running {
         plan: &P,
         arrows: &S,
     ) -> Result<Tried, DrawFault>
-        ensures { (result, drawing_of self.new) ≡ stepped (layout plan.now) (cells arrows.now) (drawing_of self.old) }
+        ensures { (result, drawing_of self.new) ≡ stepped (P.layout plan.now) (S.cells arrows.now) (drawing_of self.old) }
     {
         self.draw
             .step(plan, arrows, self.list.as_mut_slice(), &mut self.order)
@@ -40,7 +40,7 @@ impl Running {
         arrows: &S,
         budget: u32,
     ) -> Result<(u32, Stop), DrawFault>
-        ensures { (result, drawing_of self.new) ≡ ran (layout plan.now) (cells arrows.now) budget (drawing_of self.old) }
+        ensures { (result, drawing_of self.new) ≡ ran (P.layout plan.now) (S.cells arrows.now) budget (drawing_of self.old) }
     {
         self.draw.run(
             plan,

@@ -23,7 +23,7 @@ const BLANK: Pop = Pop {
 impl Running {
     // A fresh draw with room for so many records, by a fresh walk.
     pub fn open<P: Plan>(plan: &P, room: u16, heap: Global) -> Result<Running, DrawFault>
-        ensures { MatchResult result (λ x. drawing_of x ≡ begun (layout plan.now) room) (λ e. e ≡ NoMemory) }
+        ensures { MatchResult result (λ x. drawing_of x ≡ begun (P.layout plan.now) room) (λ e. e ≡ NoMemory) }
     {
         let draw = Draw::open(plan, heap)?;
         let list = filled(BLANK, room as usize, heap)?;

@@ -43,7 +43,7 @@ impl Running {
         arrows: &S,
         heap: Global,
     ) -> Result<Vec<u16>, DrawFault>
-        ensures { MatchResult result (λ l. tree_shown (layout plan.now) (cells arrows.now) (drawing_of self.now) ≡ Ok l.items) (λ e. (tree_shown (layout plan.now) (cells arrows.now) (drawing_of self.now) ≡ Err e) ⊎ (e ≡ NoMemory)) }
+        ensures { MatchResult result (λ l. tree_shown (P.layout plan.now) (S.cells arrows.now) (drawing_of self.now) ≡ Ok l.items) (λ e. (tree_shown (P.layout plan.now) (S.cells arrows.now) (drawing_of self.now) ≡ Err e) ⊎ (e ≡ NoMemory)) }
     {
         let mut ports = filled(0, plan.size() as usize, heap)?;
         tree(&self.draw, plan, arrows, ports.as_mut_slice())?;
@@ -58,7 +58,7 @@ impl Running {
         depth: u16,
         ports: &[u16],
     ) -> Result<(), DrawFault>
-        ensures { (result, cells.new) ≡ reseats_to (layout plan.now) (drawing_of self.now).held.draw depth cells.old ports.now }
+        ensures { (result, cells.new) ≡ reseats_to (P.layout plan.now) (drawing_of self.now).held.draw depth cells.old ports.now }
     {
         reseat(&self.draw, plan, cells, depth, ports)
     }

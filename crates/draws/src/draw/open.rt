@@ -3,7 +3,7 @@ ghost use Rattle.std.specs.Prelude.{◌≡◌, MatchResult};
 ghost use Rattle.model.specs.Arrows.{visible};
 ghost use Rattle.model.specs.declared.fault.DrawFault.TheVariants.{NoMemory};
 ghost use Rattle.theory.specs.Draws.{fresh_entry, height_of, opened, is_of};
-ghost use Rattle.theory.specs.OneEnd.{OneEnd};
+ghost use Rattle.theory.specs.OneEnd.{OneEndByCalls};
 ghost use Rattle.draws.specs.States.{state_of};
 
 use super::Draw;
@@ -16,7 +16,7 @@ use std::alloc::Global;
 
 // The entry of a vertex that nothing was done with: only the root is settled.
 fn fresh_entry<P: Plan>(plan: &P, v: u16) -> Entry
-    ensures { result ≡ fresh_entry (layout plan.now) v }
+    ensures { result ≡ fresh_entry (P.layout plan.now) v }
 {
     Entry {
         height: 0,
@@ -26,7 +26,7 @@ fn fresh_entry<P: Plan>(plan: &P, v: u16) -> Entry
 
 // An entry for each vertex: all at height 0, and open but for the root.
 fn fresh_entries<P: Plan>(plan: &P, heap: Global) -> Result<Entries, DrawFault>
-    ensures { MatchResult result (λ e. e.list.items ≡ (opened (layout plan.now)).entries) (λ e. e ≡ NoMemory) }
+    ensures { MatchResult result (λ e. e.list.items ≡ (opened (P.layout plan.now)).entries) (λ e. e ≡ NoMemory) }
 {
     let mut list = Vec::new(heap);
     for v in 0..plan.size() {
@@ -41,8 +41,8 @@ impl Draw {
     // A fresh draw: every height is 0, the root is settled and all other vertices are open.
     // Whatever is then done with it, with any plan, arrows, list and orders: it comes to one end, and no tree is favoured.
     pub fn open<P: Plan>(plan: &P, heap: Global) -> Result<Draw, DrawFault>
-        ensures fresh { MatchResult result (λ d. state_of d ≡ opened (layout plan.now)) (λ e. e ≡ NoMemory) }
-        ensures theorem { OneEnd }
+        ensures fresh { MatchResult result (λ d. state_of d ≡ opened (P.layout plan.now)) (λ e. e ≡ NoMemory) }
+        ensures theorem { OneEndByCalls }
     {
         let entries = fresh_entries(plan, heap)?;
         Ok(Draw {
@@ -67,14 +67,14 @@ impl Draw {
 
     // Whether the draw's size and root are the plan's.
     pub fn is_of<P: Plan>(&self, plan: &P) -> bool
-        ensures { result ≡ is_of (layout plan.now) (state_of self.now) }
+        ensures { result ≡ is_of (P.layout plan.now) (state_of self.now) }
     {
         (self.entries.list.len() == plan.size() as usize) & (self.root == plan.root())
     }
 
     // The port that the vertex shows at its height, none at the root and at a dry vertex.
     pub fn visible_port<P: Plan, S: ArrowSource>(&self, plan: &P, arrows: &S, v: u16) -> Option<u16>
-        ensures { result ≡ visible (layout plan.now) (cells arrows.now) v (height_of (state_of self.now).entries v) }
+        ensures { result ≡ visible (P.layout plan.now) (S.cells arrows.now) v (height_of (state_of self.now).entries v) }
     {
         arrows::visible_port(&self.entries, plan, arrows, v)
     }

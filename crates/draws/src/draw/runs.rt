@@ -29,9 +29,9 @@ impl Draw {
         order: &mut O,
         v: u16,
     ) -> Result<Tried, DrawFault>
-        ensures held { held_of self.new list.new ≡ (telling v (tries (layout plan.now) (cells arrows.now) v (held_of self.old list.old))).held }
-        ensures answer { result ≡ (telling v (tries (layout plan.now) (cells arrows.now) v (held_of self.old list.old))).answer }
-        ensures order { order.new ≡ told_all tells order.old (telling v (tries (layout plan.now) (cells arrows.now) v (held_of self.old list.old))).told }
+        ensures held { held_of self.new list.new ≡ (telling v (tries (P.layout plan.now) (S.cells arrows.now) v (held_of self.old list.old))).held }
+        ensures answer { result ≡ (telling v (tries (P.layout plan.now) (S.cells arrows.now) v (held_of self.old list.old))).answer }
+        ensures order { order.new ≡ told_all O.tells order.old (telling v (tries (P.layout plan.now) (S.cells arrows.now) v (held_of self.old list.old))).told }
     {
         let tried = self.try_at(plan, arrows, list, v)?;
         order.tell(v);
@@ -46,10 +46,10 @@ impl Draw {
         list: &mut [Pop],
         order: &mut O,
     ) -> Result<Tried, DrawFault>
-        ensures held { held_of self.new list.new ≡ (does (layout plan.now) (cells arrows.now) (step (strategy_of picks tells order.old)) (held_of self.old list.old)).held }
-        ensures answer { result ≡ (does (layout plan.now) (cells arrows.now) (step (strategy_of picks tells order.old)) (held_of self.old list.old)).answer }
-        ensures order { order.new ≡ told_all tells order.old (does (layout plan.now) (cells arrows.now) (step (strategy_of picks tells order.old)) (held_of self.old list.old)).told }
-        ensures law { StepLaw (layout plan.now) (cells arrows.now) (picks order.old (open_marks (state_of self.old).entries)) (held_of self.old list.old) (held_of self.new list.new) result }
+        ensures held { held_of self.new list.new ≡ (does (P.layout plan.now) (S.cells arrows.now) (step (strategy_of O.picks O.tells order.old)) (held_of self.old list.old)).held }
+        ensures answer { result ≡ (does (P.layout plan.now) (S.cells arrows.now) (step (strategy_of O.picks O.tells order.old)) (held_of self.old list.old)).answer }
+        ensures order { order.new ≡ told_all O.tells order.old (does (P.layout plan.now) (S.cells arrows.now) (step (strategy_of O.picks O.tells order.old)) (held_of self.old list.old)).told }
+        ensures law { StepLaw (P.layout plan.now) (S.cells arrows.now) (O.picks order.old (open_marks (state_of self.old).entries)) (held_of self.old list.old) (held_of self.new list.new) result }
     {
         if !self.is_of(plan) {
             return Err(DrawFault::OtherPlan);
@@ -70,10 +70,10 @@ impl Draw {
         order: &mut O,
         budget: u32,
     ) -> Result<(u32, Stop), DrawFault>
-        ensures held { held_of self.new list.new ≡ (does (layout plan.now) (cells arrows.now) (run (strategy_of picks tells order.old) budget) (held_of self.old list.old)).held }
-        ensures answer { result ≡ (does (layout plan.now) (cells arrows.now) (run (strategy_of picks tells order.old) budget) (held_of self.old list.old)).answer }
-        ensures order { order.new ≡ told_all tells order.old (does (layout plan.now) (cells arrows.now) (run (strategy_of picks tells order.old) budget) (held_of self.old list.old)).told }
-        ensures law { MatchResult result (λ x. RunLaw (layout plan.now) (cells arrows.now) (strategy_of picks tells order.old) budget (held_of self.old list.old) (held_of self.new list.new) x.0 x.1) (λ e. e ≡ OtherPlan) }
+        ensures held { held_of self.new list.new ≡ (does (P.layout plan.now) (S.cells arrows.now) (run (strategy_of O.picks O.tells order.old) budget) (held_of self.old list.old)).held }
+        ensures answer { result ≡ (does (P.layout plan.now) (S.cells arrows.now) (run (strategy_of O.picks O.tells order.old) budget) (held_of self.old list.old)).answer }
+        ensures order { order.new ≡ told_all O.tells order.old (does (P.layout plan.now) (S.cells arrows.now) (run (strategy_of O.picks O.tells order.old) budget) (held_of self.old list.old)).told }
+        ensures law { MatchResult result (λ x. RunLaw (P.layout plan.now) (S.cells arrows.now) (strategy_of O.picks O.tells order.old) budget (held_of self.old list.old) (held_of self.new list.new) x.0 x.1) (λ e. e ≡ OtherPlan) }
     {
         if !self.is_of(plan) {
             return Err(DrawFault::OtherPlan);

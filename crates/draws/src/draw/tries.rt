@@ -51,9 +51,9 @@ impl Draw {
         list: &mut [Pop],
         on: u16,
     ) -> Result<Tried, DrawFault>
-        requires of_plan { is_of (layout plan.now) (state_of self.old) ≡ true }
-        requires cycle { (c : List ℕ) × Cycle (shown (layout plan.now) (cells arrows.now) (state_of self.old).entries) c × (among on c ≡ true) }
-        ensures { (c : List ℕ) → Cycle (shown (layout plan.now) (cells arrows.now) (state_of self.old).entries) c → among on c ≡ true → (held_of self.new list.new ≡ (popping (held_of self.old list.old) c).held) × (result ≡ (popping (held_of self.old list.old) c).answer) }
+        requires of_plan { is_of (P.layout plan.now) (state_of self.old) ≡ true }
+        requires cycle { (c : List ℕ) × Cycle (shown (P.layout plan.now) (S.cells arrows.now) (state_of self.old).entries) c × (among on c ≡ true) }
+        ensures { (c : List ℕ) → Cycle (shown (P.layout plan.now) (S.cells arrows.now) (state_of self.old).entries) c → among on c ≡ true → (held_of self.new list.new ≡ (popping (held_of self.old list.old) c).held) × (result ≡ (popping (held_of self.old list.old) c).answer) }
     {
         if !has_room(list, self.pops) {
             return Err(DrawFault::ListFull);
@@ -69,11 +69,11 @@ impl Draw {
 
     // Settles the way from `v`, which does not come round.
     fn settle<P: Plan, S: ArrowSource>(&mut self, plan: &P, arrows: &S, v: u16) -> u16
-        requires of_plan { is_of (layout plan.now) (state_of self.old) ≡ true }
-        requires within { v < (layout plan.now).size }
-        requires straight { (trail (layout plan.now) (cells arrows.now) (state_of self.old).entries v).loop ≡ None }
-        ensures after { (l : List Pop) → held_of self.new l ≡ (settles (held_of self.old l) (trail (layout plan.now) (cells arrows.now) (state_of self.old).entries v).path).held }
-        ensures count { result ≡ length (trail (layout plan.now) (cells arrows.now) (state_of self.old).entries v).path }
+        requires of_plan { is_of (P.layout plan.now) (state_of self.old) ≡ true }
+        requires within { v < (P.layout plan.now).size }
+        requires straight { (trail (P.layout plan.now) (S.cells arrows.now) (state_of self.old).entries v).loop ≡ None }
+        ensures after { (l : List Pop) → held_of self.new l ≡ (settles (held_of self.old l) (trail (P.layout plan.now) (S.cells arrows.now) (state_of self.old).entries v).path).held }
+        ensures count { result ≡ length (trail (P.layout plan.now) (S.cells arrows.now) (state_of self.old).entries v).path }
     {
         settle_way(&mut self.entries, plan, arrows, v)
     }
@@ -86,9 +86,9 @@ impl Draw {
         list: &mut [Pop],
         v: u16,
     ) -> Result<Tried, DrawFault>
-        ensures held { held_of self.new list.new ≡ (does (layout plan.now) (cells arrows.now) (try_at v) (held_of self.old list.old)).held }
-        ensures answer { result ≡ (does (layout plan.now) (cells arrows.now) (try_at v) (held_of self.old list.old)).answer }
-        ensures law { TryLaw (layout plan.now) (cells arrows.now) v (held_of self.old list.old) (held_of self.new list.new) result }
+        ensures held { held_of self.new list.new ≡ (does (P.layout plan.now) (S.cells arrows.now) (try_at v) (held_of self.old list.old)).held }
+        ensures answer { result ≡ (does (P.layout plan.now) (S.cells arrows.now) (try_at v) (held_of self.old list.old)).answer }
+        ensures law { TryLaw (P.layout plan.now) (S.cells arrows.now) v (held_of self.old list.old) (held_of self.new list.new) result }
     {
         if !self.is_of(plan) {
             return Err(DrawFault::OtherPlan);

@@ -12,7 +12,7 @@ pub loop-word-preserved : goal.loop-word-preserved
 loop-word-preserved c =
     let ws = c.args.args.now in
     let i = c.loop-word.word-index in
-    ap (λ (ns : List ℕ). behind ns (list_of c.args.dash (bytes (drop (i + 1) ws)))) c.in-ok-push.ensures.items
+    ap (λ (ns : List ℕ). behind ns (list_of c.args.dash (bytes (drop (i + 1) ws)))) c.in_ok-push-in-Ok.ensures.items
     ∙ entry_more _ ws i (vec_items c.loop-word.numbers) _ c.loop-word-test.true c.in-Ok.ensures
     ∙ c.loop-word.invariant
 

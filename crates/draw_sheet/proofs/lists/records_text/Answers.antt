@@ -9,8 +9,8 @@ loop-record-init c = ap (λ (t : List ℕ). t ++ records_text c.args.records.now
 pub loop-record-preserved : goal.loop-record-preserved
 loop-record-preserved c =
     one_more (pop_text (codes "record")) c.args.records.now c.loop-record.record-index (string_bytes c.loop-record.text) _ _ _ c.loop-record-test.true
-    c.in-ok-push-str.ensures.bytes
-    (c.as-str.ensures.value ∙ c.in-ok-next.ensures)
+    c.in_ok-push_str.ensures.bytes
+    (c.as_str.ensures.value ∙ c.in_ok-next.ensures)
     ∙ c.loop-record.invariant
 
 pub returns : goal.returns

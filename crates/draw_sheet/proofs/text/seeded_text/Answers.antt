@@ -5,5 +5,5 @@ use Rattle.draw_sheet.proofs.text.seeded_text.Goals as goal
 pub returns : goal.returns
 returns c =
     IfOk-weaker c.format.result _ _
-    (λ s is. is ∙ ap (λ (t : List ℕ). codes "arrows seeded " ++ (t ++ (codes " depth " ++ (decimal c.args.depth ++ codes "\n")))) c.in-ok-seed.ensures.is)
+    (λ s is. is ∙ ap (λ (t : List ℕ). codes "arrows seeded " ++ (t ++ (codes " depth " ++ (decimal c.args.depth ++ codes "\n")))) c.in_ok-seed.ensures.is)
     c.format.ensures.ok

@@ -11,21 +11,21 @@ loop-next-init g c =
     let raises : Raises p a start low low 0 start = λ rest cyc. begins _ _ _ rest cyc in
     (ready p a (g.P.Plan.sound c.args.plan.now) start c.requires.sized low c.requires.cycle low 0 start raises, raises)
 
-pub raise-at-requires : goal.raise-at-requires
-raise-at-requires g c = record {
+pub raise_at-requires : goal.raise_at-requires
+raise_at-requires g c = record {
   within = omega (arith, c.loop-next.invariant.0.within, c.loop-next.invariant.0.long, c.loop-next.entries.list.ok.0);
   under = c.loop-next.invariant.0.under;
 }
 
-pub overflow-add-count : goal.overflow-add-count
-overflow-add-count g c = omega (arith, c.loop-next.invariant.0.small, c.args.entries.now.few, c.args.entries.now.list.ok.0)
+pub overflow_add-count : goal.overflow_add-count
+overflow_add-count g c = omega (arith, c.loop-next.invariant.0.small, c.args.entries.now.few, c.args.entries.now.list.ok.0)
 
-pub returns-in-default : goal.returns-in-default
-returns-in-default g c rest cyc = absurd (not_out _ _ _ rest cyc _ _ _ (c.loop-next.invariant.1 rest cyc) (sym c.loop-next.invariant.0.shown_now ∙ sym c.in-default.ensures))
+pub returns-in_default : goal.returns-in_default
+returns-in_default g c rest cyc = absurd (not_out _ _ _ rest cyc _ _ _ (c.loop-next.invariant.1 rest cyc) (sym c.loop-next.invariant.0.shown_now ∙ sym c.in_default.ensures))
 
 pub returns-then-next-low : goal.returns-then-next-low
 returns-then-next-low g c rest cyc =
-    finished _ _ _ rest cyc _ _ _ (c.loop-next.invariant.1 rest cyc) c.loop-next.invariant.0.within _ c.raise-at.ensures
+    finished _ _ _ rest cyc _ _ _ (c.loop-next.invariant.1 rest cyc) c.loop-next.invariant.0.within _ c.raise_at.ensures
     c.in-Some.next (sym c.loop-next.invariant.0.shown_now ∙ sym c.in-Some.ensures) c.if-next-low.true
 
 pub loop-next-smaller : goal.loop-next-smaller
@@ -37,7 +37,7 @@ loop-next-preserved g c =
     let a = g.S.ArrowSource.cells c.args.arrows.now in
     let start = vec_items c.args.entries.now.list in
     let low = c.args.low in
-    let after = vec_items c.raise-at.new.entries.list in
+    let after = vec_items c.raise_at.new.entries.list in
     let raises : Raises p a start low c.in-Some.next (c.loop-next.count + 1) after = λ rest cyc.
-    goes_on _ _ _ rest cyc _ _ _ (c.loop-next.invariant.1 rest cyc) c.loop-next.invariant.0.within after c.raise-at.ensures c.in-Some.next (sym c.loop-next.invariant.0.shown_now ∙ sym c.in-Some.ensures) c.if-next-low.false in
+    goes_on _ _ _ rest cyc _ _ _ (c.loop-next.invariant.1 rest cyc) c.loop-next.invariant.0.within after c.raise_at.ensures c.in-Some.next (sym c.loop-next.invariant.0.shown_now ∙ sym c.in-Some.ensures) c.if-next-low.false in
     (ready p a (g.P.Plan.sound c.args.plan.now) start c.requires.sized low c.requires.cycle c.in-Some.next (c.loop-next.count + 1) after raises, raises)

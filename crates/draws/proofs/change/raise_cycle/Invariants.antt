@@ -1,4 +1,4 @@
-use Rattle.std.proofs.Common.{ℕ, ◌-◌, length, vec_items}
+use Rattle.std.proofs.Common.{◌-◌, length, vec_items}
 use Rattle.draws.proofs.Raising.{Ready, Raises}
 use Rattle.draws.proofs.change.raise_cycle.Given as goal
 

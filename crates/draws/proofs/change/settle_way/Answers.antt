@@ -12,24 +12,24 @@ loop-entries-init g c =
     begins (shown p a start) start (trail p a start c.args.start) c.args.start (omega (arith, c.requires.within, c.requires.sized))
     (ap (λ (n : ℕ). trail_on (shown p a start) (is_settled start) (suc n) [] c.args.start) c.requires.sized)
 
-pub settle-at-requires : goal.settle-at-requires
-settle-at-requires g c = omega (arith, c.loop-entries.invariant.low, as_long _ _ _ _ _ _ c.loop-entries.invariant, c.loop-entries.entries.list.ok.0)
+pub settle_at-requires : goal.settle_at-requires
+settle_at-requires g c = omega (arith, c.loop-entries.invariant.low, as_long _ _ _ _ _ _ c.loop-entries.invariant, c.loop-entries.entries.list.ok.0)
 
-pub overflow-add-count : goal.overflow-add-count
-overflow-add-count g c = omega (arith, most _ _ _ _ _ _ c.loop-entries.invariant, c.args.entries.now.few, c.args.entries.now.list.ok.0)
+pub overflow_add-count : goal.overflow_add-count
+overflow_add-count g c = omega (arith, most _ _ _ _ _ _ c.loop-entries.invariant, c.args.entries.now.few, c.args.entries.now.list.ok.0)
 
-pub returns-in-default : goal.returns-in-default
-returns-in-default g c =
+pub returns-in_default : goal.returns-in_default
+returns-in_default g c =
     let p = g.P.Plan.layout c.args.plan.now in
     let a = g.S.ArrowSource.cells c.args.arrows.now in
     let start = vec_items c.args.entries.now.list in
     let inv = c.loop-entries.invariant in
-    let none : shown p a start c.loop-entries.here ≡ None = sym (shown_still p a start _ _ _ _ inv) ∙ sym c.in-default.ensures in
-    let (after, count) = ends_dry _ _ _ _ _ _ inv (sym c.loop-entries-test.ensures) _ c.settle-at.ensures none in
+    let none : shown p a start c.loop-entries.here ≡ None = sym (shown_still p a start _ _ _ _ inv) ∙ sym c.in_default.ensures in
+    let (after, count) = ends_dry _ _ _ _ _ _ inv (sym c.loop-entries-test.ensures) _ c.settle_at.ensures none in
     record { after = after; count = count }
 
 pub loop-entries-smaller : goal.loop-entries-smaller
-loop-entries-smaller g c = falls _ _ _ _ _ _ c.loop-entries.invariant (sym c.loop-entries-test.ensures) _ c.settle-at.ensures
+loop-entries-smaller g c = falls _ _ _ _ _ _ c.loop-entries.invariant (sym c.loop-entries-test.ensures) _ c.settle_at.ensures
 
 pub loop-entries-preserved : goal.loop-entries-preserved
 loop-entries-preserved g c =
@@ -40,7 +40,7 @@ loop-entries-preserved g c =
     let inv = c.loop-entries.invariant in
     let some : shown p a start here ≡ Some c.in-Some.next = sym (shown_still p a start _ _ _ _ inv) ∙ sym c.in-Some.ensures in
     let low : c.in-Some.next < length start = omega (arith, shown_to p a (g.P.Plan.sound c.args.plan.now) start here c.in-Some.next some, c.requires.sized) in
-    goes_on _ _ _ _ _ _ inv (sym c.loop-entries-test.ensures) _ c.settle-at.ensures c.in-Some.next low some
+    goes_on _ _ _ _ _ _ inv (sym c.loop-entries-test.ensures) _ c.settle_at.ensures c.in-Some.next low some
 
 pub returns : goal.returns
 returns g c =

@@ -1,5 +1,4 @@
-use Rattle.std.proofs.Common.{◌≡◌, vec_items, sym, ap, ◌∙◌, arith}
-use Rattle.theory.specs.Laws.{open_arrows}
+use Rattle.std.proofs.Common.{vec_items, sym, arith}
 use Rattle.draws.proofs.Rounding.{met, walks_on, came_round}
 use Rattle.draws.proofs.Shown.{open_to}
 use Rattle.draws.proofs.trail.comes_round.Goals as goal

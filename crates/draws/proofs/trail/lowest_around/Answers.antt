@@ -1,4 +1,4 @@
-use Rattle.std.proofs.Common.{◌≡◌, ℕ, ◌+◌, ◌∷◌, vec_items, sym, ap, ◌∙◌, subst, arith}
+use Rattle.std.proofs.Common.{ℕ, ◌+◌, ◌∷◌, vec_items, sym, ◌∙◌, subst, arith}
 use Rattle.theory.specs.Draws.{shown}
 use Rattle.draws.proofs.Lowering.{Lowering, begins, not_out, all_round, back_at_start, goes_on}
 use Rattle.draws.proofs.Shown.{cycle_few}
@@ -10,8 +10,8 @@ loop-gone-init g c m rest cyc on =
     begins _ p.size c.args.start m rest cyc on
     (cycle_few p (g.S.ArrowSource.cells c.args.arrows.now) (g.P.Plan.sound c.args.plan.now) (vec_items c.args.entries.now.list) (m ∷ rest) cyc)
 
-pub returns-in-default : goal.returns-in-default
-returns-in-default g c m rest cyc on = absurd (not_out _ _ _ m rest cyc _ _ _ (c.loop-gone.invariant m rest cyc on) (sym c.in-default.ensures))
+pub returns-in_default : goal.returns-in_default
+returns-in_default g c m rest cyc on = absurd (not_out _ _ _ m rest cyc _ _ _ (c.loop-gone.invariant m rest cyc on) (sym c.in_default.ensures))
 
 pub returns-then-next-start : goal.returns-then-next-start
 returns-then-next-start g c m rest cyc on =

@@ -7,8 +7,8 @@ use Rattle.endings.proofs.tree.write_ports.Goals as goal
 
 pub loop-v-preserved : goal.loop-v-preserved
 loop-v-preserved g c =
-    one_more (port_shown (g.P.Plan.layout c.args.plan.now) (g.S.ArrowSource.cells c.args.arrows.now) (height_of (state_of c.args.draw.now).entries)) c.loop-v.v c.port-shown.result c.loop-v.ports c.args.ports.now
-    (omega (arith, c.requires, c.loop-v-test.true, c.size-v-end.ensures)) c.loop-v.invariant c.port-shown.ensures
+    one_more (port_shown (g.P.Plan.layout c.args.plan.now) (g.S.ArrowSource.cells c.args.arrows.now) (height_of (state_of c.args.draw.now).entries)) c.loop-v.v c.port_shown.result c.loop-v.ports c.args.ports.now
+    (omega (arith, c.requires, c.loop-v-test.true, c.size-v-end.ensures)) c.loop-v.invariant c.port_shown.ensures
 
 pub returns : goal.returns
 returns g c =

@@ -4,23 +4,23 @@ use Rattle.tokens.proofs.Readings.{from_start, one_digit, no_digit, too_large, a
 use Rattle.tokens.proofs.number.reading.Goals as goal
 
 pub loop-b-init : goal.loop-b-init
-loop-b-init c = (omega arith, from_start _ _ _ (eqb-false _ 0 (sym c.if-is-empty.ensures)))
+loop-b-init c = (omega arith, from_start _ _ _ (eqb-false _ 0 (sym c.if-is_empty.ensures)))
 
-pub returns-in-default : goal.returns-in-default
-returns-in-default c =
-    no_digit _ c.loop-b.value _ c.loop-b.b-index _ _ c.loop-b-test.true c.from.ensures c.in-default.ensures.value ∙ c.loop-b.invariant.1
+pub returns-in_default : goal.returns-in_default
+returns-in_default c =
+    no_digit _ c.loop-b.value _ c.loop-b.b-index _ _ c.loop-b-test.true c.from.ensures c.in_default.ensures.value ∙ c.loop-b.invariant.1
 
 pub returns-then-value-limit : goal.returns-then-value-limit
 returns-then-value-limit c =
-    let above : c.args.most < c.one-more-value.result = omega (arith, c.from-limit.ensures) in
+    let above : c.args.most < c.one_more-value.result = omega (arith, c.from-limit.ensures) in
     sym (too_large _ _ _ (drop (c.loop-b.b-index + 1) c.args.word.now) (omega arith) above)
-    ∙ one_digit _ c.loop-b.value _ c.loop-b.b-index _ _ c.loop-b-test.true c.from.ensures _ _ c.in-Some.ensures.value c.one-more-value.ensures
+    ∙ one_digit _ c.loop-b.value _ c.loop-b.b-index _ _ c.loop-b-test.true c.from.ensures _ _ c.in-Some.ensures.value c.one_more-value.ensures
     ∙ c.loop-b.invariant.1
 
 pub loop-b-preserved : goal.loop-b-preserved
 loop-b-preserved c = (
   omega (arith, c.from-limit.ensures),
-  one_digit _ c.loop-b.value _ c.loop-b.b-index _ _ c.loop-b-test.true c.from.ensures _ _ c.in-Some.ensures.value c.one-more-value.ensures
+  one_digit _ c.loop-b.value _ c.loop-b.b-index _ _ c.loop-b-test.true c.from.ensures _ _ c.in-Some.ensures.value c.one_more-value.ensures
       ∙ c.loop-b.invariant.1,
 )
 

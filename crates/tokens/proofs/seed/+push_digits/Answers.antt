@@ -4,4 +4,4 @@ use Rattle.tokens.proofs.seed.+push_digits.Goals as goal
 
 pub returns : goal.returns
 returns t c =
-    IfOk-weaker c.push-digit.result _ _ (λ _ last. pushed c.args.n _ _ _ c.ranges.n.fits c.if-n-eq0.false c.in-ok-push-digits.ensures last) c.push-digit.ensures
+    IfOk-weaker c.push_digit.result _ _ (λ _ last. pushed c.args.n _ _ _ c.ranges.n.fits c.if-n-eq0.false c.in_ok-push_digits.ensures last) c.push_digit.ensures

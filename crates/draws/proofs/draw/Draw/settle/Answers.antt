@@ -5,8 +5,7 @@ use Rattle.theory.proofs.Entries.{settled_heights}
 use Rattle.draws.proofs.draw.Draw.settle.Goals as goal
 
 -- settling moves no height
-pub invariant-of-self : goal.invariant-of-self
-invariant-of-self g c = (
-  λ v. subst (λ (es : List Entry). height_of es v ≤ 4096) (sym c.settle-way.ensures.after) (subst (λ (k : ℕ). k ≤ 4096) (sym (settled_heights _ _ v)) (c.args.self.now.low v)),
-  tt,
-)
+pub invariant_of-self : goal.invariant_of-self
+invariant_of-self g c = record {
+  low = λ v. subst (λ (es : List Entry). height_of es v ≤ 4096) (sym c.settle_way.ensures.after) (subst (λ (k : ℕ). k ≤ 4096) (sym (settled_heights _ _ v)) (c.args.self.now.low v));
+}

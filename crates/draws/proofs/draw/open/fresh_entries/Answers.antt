@@ -12,13 +12,12 @@ one_more p es v e is fresh =
     ap (λ (xs : List Entry). xs ++ e ∷ []) is ∙ ap (λ (x : Entry). map (fresh_entry p) (range_with_len 0 v) ++ x ∷ []) fresh ∙ sym (map-range_with_len_more (fresh_entry p) 0 v v (omega arith))
 
 pub loop-v-preserved : goal.loop-v-preserved
-loop-v-preserved g c = c.in-Ok.ensures.items ∙ one_more (g.P.Plan.layout c.args.plan.now) _ c.loop-v.v c.fresh-entry.result c.loop-v.invariant c.fresh-entry.ensures
+loop-v-preserved g c = c.in-Ok.ensures.items ∙ one_more (g.P.Plan.layout c.args.plan.now) _ c.loop-v.v c.fresh_entry.result c.loop-v.invariant c.fresh_entry.ensures
 
-pub invariant-of-result : goal.invariant-of-result
-invariant-of-result g c = (
-  omega (arith, c.loop-v.list.ok.0, ap length c.loop-v.invariant, length-map-range_with_len (fresh_entry (g.P.Plan.layout c.args.plan.now)) 0 c.loop-v.v, (g.P.Plan.sound c.args.plan.now).size_most, c.size-v-end.ensures, c.loop-v.auto.v-end),
-  tt,
-)
+pub invariant_of-result : goal.invariant_of-result
+invariant_of-result g c = record {
+  few = omega (arith, c.loop-v.list.ok.0, ap length c.loop-v.invariant, length-map-range_with_len (fresh_entry (g.P.Plan.layout c.args.plan.now)) 0 c.loop-v.v, (g.P.Plan.sound c.args.plan.now).size_most, c.size-v-end.ensures, c.loop-v.auto.v-end);
+}
 
 pub returns : goal.returns
 returns g c =

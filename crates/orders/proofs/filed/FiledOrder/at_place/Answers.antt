@@ -12,7 +12,7 @@ same_entry marks same = ap (λ o. then o (if_open marks)) (sym same)
 pub returns-then-self-len : goal.returns-then-self-len
 returns-then-self-len c =
     let self = c.args.self.now in
-    c.if-open.ensures
+    c.if_open.ensures
     ∙ same_entry (open_marks (vec_items c.args.entries.now.list))
     (slice_get_read (vec_items self.vertices) c.len.result self.place c.index.result.now (omega (arith, self.vertices.ok.0)) c.if-self-len.true c.index.ensures)
 
