@@ -1,7 +1,7 @@
 use Rattle.std.proofs.Common.{◌≡◌, ℕ, [], length, vec_items, sym, ap, ◌∙◌, subst, arith}
 use Rattle.commands.proofs.Cuts.{Sofar, moved, goes_on, ends_word, last_word}
 use Rattle.commands.proofs.Laws.{all_proper, come_back}
-use Rattle.std.specs.List.{AllByRecursion as All}
+use Rattle.std.specs.List.{AllByRecursion}
 use Rattle.commands.proofs.words.words.Goals as goal
 use Rattle.commands.proofs.words.words.Goals.{then-is_blank+in_ok-keep, else-is_blank}
 use Rattle.commands.specs.Words.{bytes, words_after, words_of, Proper}
@@ -37,6 +37,6 @@ all_cut c =
 pub returns : goal.returns
 returns c = record {
   are = all_cut c;
-  proper = subst (All Proper) (sym (all_cut c)) (all_proper c.args.line.now);
+  proper = subst (AllByRecursion Proper) (sym (all_cut c)) (all_proper c.args.line.now);
   back = λ ws proper is. all_cut c ∙ come_back c.args.line.now ws proper is;
 }
