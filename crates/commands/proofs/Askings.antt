@@ -1,17 +1,11 @@
 -- What the words of a line ask for, by how many they are. Assumes nothing.
-use Rattle.std.proofs.Common.{◌≡◌, ℕ, ◌+◌, ◌<◌, ◌≤◌, Bool, true, false, cond, List, [], ◌∷◌, ◌++◌, length, get_or, drop, Ok, Err, codes, Decides, Result, sym, refl, ap, ◌∙◌, append_assoc, append-nil, arith, Bor}
+use Rattle.std.proofs.Common.{◌≡◌, ℕ, ◌+◌, ◌<◌, ◌≤◌, Bool, cond, List, [], ◌∷◌, ◌++◌, length, get_or, drop, Ok, Err, codes, Result, sym, refl, ap, ◌∙◌, append_assoc, append-nil, arith, Bor}
 use Rattle.std.proofs.lemmas.List.{at_drop_more, at_drop_all}
 use Rattle.std.specs.Str.{bytes_eq}
 use Rattle.commands.specs.Commands.{help, pair_of, sized_of, ends_of, port_of, before, then_ports, ports_of, help_of}
 use Rattle.commands.specs.Words.{bytes}
 use Rattle.commands.specs.declared.command.Mistake.{Mistake}
 use Rattle.commands.specs.declared.command.Mistake.TheVariants.{Count, Root}
-
--- two tests of one fact are equal
-pub same_test : (P : Type 0) (r s : Bool) → Decides r P → Decides s P → r ≡ s
-same_test P true s (is, if_is) (holds, if_holds) = sym (if_holds (is refl))
-same_test P false true (is, if_is) (holds, if_holds) = if_is (holds refl)
-same_test P false false (is, if_is) (holds, if_holds) = refl
 
 -- the word at i as the code reads it
 abbrev pub word_at : List (Bor (List ℕ)) → ℕ → List ℕ

@@ -1,7 +1,7 @@
 -- What the words of a line are. Assumes nothing.
 use Rattle.std.specs.Prelude.{◌≡◌, ℕ, ◌<◌, Bool, false, cond, ◌||◌, List, [], ◌∷◌, ◌++◌, map, length, ◌==◌, ◌≢◌}
 use Rattle.std.specs.Borrow.{Bor}
-use Rattle.std.specs.List.{AllByRecursion as All}
+use Rattle.std.specs.List.{AllByRecursion}
 
 -- a space, a tab or a carriage return
 abbrev pub blank : ℕ → Bool
@@ -32,7 +32,7 @@ Plain b = (blank b ≡ false) × (b ≢ 35)
 
 -- a word as it should be: it is not empty, and each byte can stand in it
 abbrev pub Proper : List ℕ → Type 0
-Proper w = (0 < length w) × All Plain w
+Proper w = (0 < length w) × AllByRecursion Plain w
 
 -- words with a space after each
 abbrev pub spaced : List (List ℕ) → List ℕ

@@ -1,6 +1,6 @@
 // Cuts a line of a sheet into its words.
 ghost use Rattle.std.specs.Prelude.{◌≡◌, ℕ, List, ◌++◌, IfOk, OnOk};
-ghost use Rattle.std.specs.List.{AllByRecursion as All};
+ghost use Rattle.std.specs.List.{AllByRecursion};
 ghost use Rattle.commands.specs.Words.{blank, uncommented, whole, bytes, words_of, Proper, spaced};
 
 use std::alloc::{AllocError, Global};
@@ -38,8 +38,8 @@ fn keep<'a>(out: &mut Vec<&'a [u8]>, word: &'a [u8]) -> Result<(), AllocError>
 // Each is proper, and a line of proper words, a space after each, gives just these.
 pub fn words<'a>(heap: Global, line: &'a [u8]) -> Result<Vec<&'a [u8]>, AllocError>
     ensures are { IfOk result (λ v. bytes v.items ≡ words_of line.now) }
-    ensures proper { IfOk result (λ v. All Proper (bytes v.items)) }
-    ensures back { IfOk result (λ v. (ws : List (List ℕ)) → All Proper ws → line.now ≡ spaced ws → bytes v.items ≡ ws) }
+    ensures proper { IfOk result (λ v. AllByRecursion Proper (bytes v.items)) }
+    ensures back { IfOk result (λ v. (ws : List (List ℕ)) → AllByRecursion Proper ws → line.now ≡ spaced ws → bytes v.items ≡ ws) }
 {
     let text = before_comment(line);
     let mut out = Vec::new(heap);

@@ -1,4 +1,7 @@
 // Reads a sheet from standard input and does its commands, or does the one command on its command line.
+
+#![tactic(auto)]
+
 use anyhow::anyhow;
 use sheet::whole::Sheet;
 use std::alloc::Global;

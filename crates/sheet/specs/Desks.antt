@@ -1,5 +1,5 @@
 -- What the desk has in hand, and what each command does with it. Assumes nothing.
-use Rattle.std.specs.Prelude.{◌≡◌, ℕ, Bool, true, false, cond, ◌⊎◌, List, length, Some, None, Ok, Err, Option, Result}
+use Rattle.std.specs.Prelude.{◌≡◌, ℕ, ◌⊎◌, List, length, Some, None, Ok, Err, Option, Result}
 use Rattle.model.specs.Layouts.{Layout}
 use Rattle.model.specs.Trees.{tree_check}
 use Rattle.model.specs.declared.fault.DrawFault.{DrawFault}

@@ -4,7 +4,7 @@ use Rattle.commands.specs.Commands.{Asked, command_of}
 use Rattle.commands.specs.Told.{told}
 use Rattle.commands.specs.Words.{words_of}
 use Rattle.commands.specs.declared.command.Mistake.{Mistake}
-use Rattle.sheet.specs.Desks.{Desk, before, does, Takes}
+use Rattle.sheet.specs.Desks.{Desk, before, Takes}
 use Rattle.sheet.specs.Texts.{answer_text, line_text, misplaced_word}
 use Rattle.sheet.specs.declared.answer.Answer.{Answer}
 use Rattle.sheet.specs.declared.answer.Answer.TheVariants as answer

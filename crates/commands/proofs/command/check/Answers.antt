@@ -1,4 +1,4 @@
-use Rattle.std.proofs.Common.{ℕ, ◌+◌, List, drop, vec_items, sym, ap, ◌∙◌}
+use Rattle.std.proofs.Common.{ℕ, ◌+◌, List, drop, vec_items, ap, ◌∙◌}
 use Rattle.commands.proofs.Askings.{behind, behind_none, port_more, port_wrong, ports_done}
 use Rattle.commands.proofs.command.check.Goals as goal
 use Rattle.commands.specs.Commands.{ports_of, of_ports}
@@ -12,7 +12,7 @@ pub loop-word-preserved : goal.loop-word-preserved
 loop-word-preserved c =
     let ws = c.args.args.now in
     let i = c.loop-word.word-index in
-    ap (λ (ps : List ℕ). behind ps (ports_of (bytes (drop (i + 1) ws)))) c.in-ok-push.ensures.items
+    ap (λ (ps : List ℕ). behind ps (ports_of (bytes (drop (i + 1) ws)))) c.in_ok-push-in-Ok.ensures.items
     ∙ port_more ws i (vec_items c.loop-word.ports) _ c.loop-word-test.true c.in-Ok.ensures
     ∙ c.loop-word.invariant
 

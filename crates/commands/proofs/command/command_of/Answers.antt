@@ -4,6 +4,6 @@ use Rattle.commands.proofs.command.command_of.Goals as goal
 use Rattle.commands.specs.Commands.{command_of}
 use Rattle.commands.specs.Words.{bytes}
 
-pub returns-in-default : goal.returns-in-default
-returns-in-default c =
-    ap (λ (ws : List (Bor (List ℕ))). command_of (bytes ws)) (sym (nil_from_length _ c.in-default.ensures.cases))
+pub returns-in_default : goal.returns-in_default
+returns-in_default c =
+    ap (λ (ws : List (Bor (List ℕ))). command_of (bytes ws)) (sym (nil_from_length _ c.in_default.ensures.cases))

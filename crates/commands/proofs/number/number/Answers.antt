@@ -4,23 +4,23 @@ use Rattle.commands.proofs.Readings.{from_start, one_digit, no_digit, too_large,
 use Rattle.commands.proofs.number.number.Goals as goal
 
 pub loop-b-init : goal.loop-b-init
-loop-b-init c = (omega arith, from_start _ _ (eqb-false _ 0 (sym c.if-is-empty.ensures)))
+loop-b-init c = (omega arith, from_start _ _ (eqb-false _ 0 (sym c.if-is_empty.ensures)))
 
-pub returns-then-not-is-ascii-digit : goal.returns-then-not-is-ascii-digit
-returns-then-not-is-ascii-digit c =
-    no_digit c.loop-b.value _ c.loop-b.b-index _ c.loop-b-test.true (sym c.if-not-is-ascii-digit.ensures.value) ∙ c.loop-b.invariant.1
+pub returns-then-not-is_ascii_digit : goal.returns-then-not-is_ascii_digit
+returns-then-not-is_ascii_digit c =
+    no_digit c.loop-b.value _ c.loop-b.b-index _ c.loop-b-test.true (sym c.if-not-is_ascii_digit.ensures.value) ∙ c.loop-b.invariant.1
 
 pub returns-then-value-limit : goal.returns-then-value-limit
 returns-then-value-limit c =
-    let above : c.args.most < c.one-more-value.result = omega (arith, c.from-limit.ensures) in
+    let above : c.args.most < c.one_more-value.result = omega (arith, c.from-limit.ensures) in
     sym (too_large _ _ (drop (c.loop-b.b-index + 1) c.args.word.now) above)
-    ∙ one_digit c.loop-b.value _ c.loop-b.b-index _ _ c.loop-b-test.true (sym c.if-not-is-ascii-digit.ensures.value) c.one-more-value.ensures
+    ∙ one_digit c.loop-b.value _ c.loop-b.b-index _ _ c.loop-b-test.true (sym c.if-not-is_ascii_digit.ensures.value) c.one_more-value.ensures
     ∙ c.loop-b.invariant.1
 
 pub loop-b-preserved : goal.loop-b-preserved
 loop-b-preserved c = (
   omega (arith, c.from-limit.ensures),
-  one_digit c.loop-b.value _ c.loop-b.b-index _ _ c.loop-b-test.true (sym c.if-not-is-ascii-digit.ensures.value) c.one-more-value.ensures
+  one_digit c.loop-b.value _ c.loop-b.b-index _ _ c.loop-b-test.true (sym c.if-not-is_ascii_digit.ensures.value) c.one_more-value.ensures
       ∙ c.loop-b.invariant.1,
 )
 

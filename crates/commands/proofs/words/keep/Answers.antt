@@ -4,6 +4,6 @@ use Rattle.commands.proofs.Cuts.{kept}
 use Rattle.commands.proofs.words.keep.Goals as goal
 use Rattle.commands.specs.Words.{bytes}
 
-pub returns-in-ok-push : goal.returns-in-ok-push
-returns-in-ok-push c =
-    ap bytes c.in-ok-push.ensures.items ∙ kept _ _ (eqb-false _ 0 (sym c.if-not-is-empty.ensures))
+pub returns-in_ok-push : goal.returns-in_ok-push
+returns-in_ok-push c =
+    ap bytes c.in_ok-push.ensures.items ∙ kept _ _ (eqb-false _ 0 (sym c.if-not-is_empty.ensures))

@@ -4,5 +4,5 @@ use Rattle.sheet.proofs.session.Session.check.Goals as goal
 
 pub returns-in-Linking : goal.returns-in-Linking
 returns-in-Linking c =
-    ap (λ a. Ok a) (c.reported.ensures ∙ ap reported c.check-tree.ensures.answer)
+    ap (λ a. Ok a) (c.reported.ensures ∙ ap reported c.check_tree.ensures.answer)
     ∙ ap (λ h. checks (layout_at (hall_of h)) c.args.ports.now) (sym c.in-Linking.is)
