@@ -1,21 +1,32 @@
 // Bad lines, and what is due at a table's end.
 use draw_sheet::whole::Sheet;
 use std::alloc::Global;
+use std::process::Abort;
 use std::test::*;
 
-fn answers(sheet: &mut Sheet, heap: Global, line: &str, text: &str) -> Result<(), Fail> {
-    assert_eq!(sheet.line(heap, line.as_bytes())?.as_str(), text);
+fn answers(
+    rt: &impl Abort,
+    sheet: &mut Sheet,
+    heap: Global,
+    line: &str,
+    text: &str,
+) -> Result<(), Fail> {
+    assert_eq!(rt; sheet.line(heap, line.as_bytes())?.as_str(), text);
     Ok(())
 }
 
 // Does the lines in turn, each of which must be answered as it says, and ends the sheet.
-fn answers_all(rt: HostRuntime, cases: &[(&str, &str)], last: &str) -> Result<Sheet, Fail> {
+fn answers_all(
+    rt: &(impl Abort + AllocGlobal),
+    cases: &[(&str, &str)],
+    last: &str,
+) -> Result<Sheet, Fail> {
     let heap = rt.alloc();
     let mut sheet = Sheet::new();
     for (line, text) in cases {
-        answers(&mut sheet, heap, line, text)?;
+        answers(rt, &mut sheet, heap, line, text)?;
     }
-    assert_eq!(sheet.end(heap)?.as_str(), last);
+    assert_eq!(rt; sheet.end(heap)?.as_str(), last);
     Ok(sheet)
 }
 
@@ -35,7 +46,7 @@ fn bad_lines(rt: HostRuntime) -> Result<(), Fail> {
         ("complete 01 root 0", "plan complete 1 root 0\n"),
         ("check - 5 65535", "tree\n"),
     ];
-    let sheet = answers_all(rt, &cases, "")?;
+    let sheet = answers_all(&rt, &cases, "")?;
     assert!(rt; !sheet.went_well(false));
     Ok(())
 }
@@ -51,7 +62,7 @@ fn tables_end(rt: HostRuntime) -> Result<(), Fail> {
         ("link 1 1", "line 6: a link follows its table\n"),
         ("table 1 root 0", ""),
     ];
-    let sheet = answers_all(rt, &cases, "plan table 1 root 0 links 0\n")?;
+    let sheet = answers_all(&rt, &cases, "plan table 1 root 0 links 0\n")?;
     assert!(rt; !sheet.went_well(false));
     Ok(())
 }
@@ -84,7 +95,7 @@ fn cells_are_counted(rt: HostRuntime) -> Result<(), Fail> {
         ),
         ("filed 2 0", ""),
     ];
-    let sheet = answers_all(rt, &cases, "line 15: there are too few cells\n")?;
+    let sheet = answers_all(&rt, &cases, "line 15: there are too few cells\n")?;
     assert!(rt; !sheet.went_well(false));
     Ok(())
 }
@@ -92,7 +103,7 @@ fn cells_are_counted(rt: HostRuntime) -> Result<(), Fail> {
 #[test]
 fn refusals_are_answers(rt: HostRuntime) -> Result<(), Fail> {
     let cases = [("complete 0 root 0", "refused 4 draw 0\n")];
-    let sheet = answers_all(rt, &cases, "")?;
+    let sheet = answers_all(&rt, &cases, "")?;
     assert!(rt; sheet.went_well(false) && !sheet.went_well(true));
     Ok(())
 }

@@ -2,11 +2,11 @@
 
 #![tactic(auto)]
 
-use anyhow::anyhow;
 use draw_sheet::whole::Sheet;
 use std::alloc::Global;
 use std::env;
 use std::io::{BufRead, BufReader};
+use std::process::ExitCode;
 
 // Does the lines of standard input as they come, and says whether none was bad.
 fn do_sheet(rt: &HostRuntime, heap: Global) -> anyhow::Result<bool> {
@@ -46,14 +46,15 @@ fn run(rt: &HostRuntime) -> anyhow::Result<bool> {
     }
 }
 
-fn main(rt: HostRuntime) -> anyhow::Result<()> {
+fn main(rt: HostRuntime) -> ExitCode {
     match run(&rt) {
-        Ok(true) => Ok(()),
+        Ok(true) => ExitCode::SUCCESS,
         // What went wrong stands among the answers.
-        Ok(false) => Err(anyhow!("")),
+        Ok(false) => ExitCode::FAILURE,
         Err(e) => {
-            eprintln!(rt; "draintree: {e}")?;
-            Err(e)
+            // Where not even this can be written, the status alone tells it.
+            let _ = eprintln!(rt; "drawtree: {e}");
+            ExitCode::FAILURE
         }
     }
 }

@@ -46,10 +46,8 @@ fn refused_links(rt: HostRuntime) -> Result<(), Fail> {
     ] {
         assert_eq!(rt; table.link(from, to), answer);
     }
-    assert_eq!(rt;
-        table.links(),
-        &[Link { from: 2, to: 2 }, Link { from: 2, to: 3 }]
-    );
+    let links = [Link { from: 2, to: 2 }, Link { from: 2, to: 3 }];
+    assert_eq!(rt; table.links(), links.as_slice());
     for (port, end) in [(0, Some(2)), (1, Some(3)), (2, None)] {
         assert_eq!(rt; table.target(2, port), end);
     }
