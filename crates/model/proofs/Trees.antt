@@ -1,9 +1,7 @@
 -- The law of the tree check: each answer comes exactly where it is right. Assumes nothing.
 use Rattle.std.proofs.Common.{◌≡◌, ℕ, ◌<◌, ◌≤◌, Bool, true, false, cond, not, eqb, ltb, List, length, get_or, Some, None, Ok, Err, Option, Result, refl, subst, ⊎_elim, arith, MatchOption}
-use Rattle.std.proofs.lemmas.Bool.{eqb-true, eq-eqb, ltb-true, ltb-false, not-true, not-false, both_ways, cond-true, cases_lt, cases_order}
+use Rattle.std.proofs.lemmas.Bool.{eq-eqb, ltb-true, ltb-false, not-true, not-false, both_ways, cond-true, cases_lt, cases_order}
 use Rattle.model.specs.Layouts.{Layout, Sound, is_root}
-use Rattle.model.specs.Picks.{lowest}
-use Rattle.model.specs.Ways.{Leads}
 use Rattle.model.specs.Trees.{follow, comes_to, lowest_lost, verdict, tree_check, Reaches, IsTree, IsLost, TreeLaw}
 use Rattle.model.specs.declared.fault.DrawFault.{DrawFault}
 use Rattle.model.specs.declared.fault.DrawFault.TheVariants.{Short}

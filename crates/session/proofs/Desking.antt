@@ -1,8 +1,7 @@
 -- What commands do where what they need is there. Assumes nothing.
-use Rattle.std.proofs.Common.{◌≡◌, ℕ, ◌+◌, ◌≤◌, Bool, true, false, cond, eqb, ltb, ◌⊎◌, List, ◌++◌, length, Some, None, Ok, Err, vec_items, Option, Result, sym, refl, ap, ◌∙◌, subst, inl, inr, arith, length-append, MatchResult}
+use Rattle.std.proofs.Common.{◌≡◌, ℕ, ◌+◌, ◌≤◌, Bool, true, false, cond, ltb, ◌⊎◌, List, length, Some, None, Ok, Err, vec_items, Result, sym, refl, ap, ◌∙◌, subst, inl, inr, arith, length-append, MatchResult}
 use Rattle.std.proofs.lemmas.Bool.{le-ltb}
 use Rattle.std.specs.Option.{option_map}
-use Rattle.model.specs.Arrows.{Cells}
 use Rattle.model.specs.Depths.{cells_to, cells_fault}
 use Rattle.model.specs.Layouts.{Layout}
 use Rattle.model.specs.declared.fault.DrawFault.{DrawFault}
@@ -18,13 +17,11 @@ use Rattle.sources.specs.declared.any.AnyArrows.TheVariants as source
 use Rattle.sources.specs.declared.filed.Filed.{Filed}
 use Rattle.desk.specs.Drawings.{Drawing, drawing_of, begun, tree_shown}
 use Rattle.desk.specs.declared.running.Running.{Running}
-use Rattle.session.specs.Desks.{Planned, planned_of, pending_of, starting, place_of, arrowed_of, desk_of, layout_of, Pending, Place, ready, filing, Arrowed, filed, seeded, cells_at, Desk, put_at, Done, unless_fault, plan_at, with_plan, with_draw, new_arrows, new_drawing, wanted, finishes, gathers, finishing, begins_filed, pending_at, extended, adds_cells, told_tree, shows_tree, reseated_desk, reseats_arrows, reseats}
+use Rattle.session.specs.Desks.{Planned, planned_of, pending_of, starting, place_of, arrowed_of, desk_of, layout_of, Pending, filing, Arrowed, filed, cells_at, Desk, put_at, Done, unless_fault, plan_at, with_draw, new_arrows, new_drawing, wanted, finishes, gathers, finishing, begins_filed, pending_at, extended, adds_cells, told_tree, shows_tree, reseated_desk, reseats_arrows, reseats}
 use Rattle.session.specs.Renewals.{Renewed, Renews}
 use Rattle.session.specs.Said as said
 use Rattle.session.specs.Said.{Said}
-use Rattle.session.specs.declared.answer.Misplaced.{Misplaced}
 use Rattle.session.specs.declared.answer.Misplaced.TheVariants as misplaced
-use Rattle.session.specs.declared.hall.Hall.{Hall}
 use Rattle.session.specs.declared.hall.Pending as hall_of
 use Rattle.session.specs.declared.hall.Hall.TheVariants as hall
 use Rattle.session.specs.declared.session.Session.{Session}

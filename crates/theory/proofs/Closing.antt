@@ -3,7 +3,7 @@ use Rattle.std.proofs.Common.{◌≡◌, ℕ, suc, ◌<◌, ◌≤◌, true, ◌
 use Rattle.std.proofs.lemmas.Bool.{cases_Bool}
 use Rattle.model.specs.Ways.{Way, Leads}
 use Rattle.model.proofs.Ways.{none_some, same_some, lead_along, way_more, way_all, way_distinct, no_loop}
-use Rattle.theory.specs.Cycles.{among, Cycle}
+use Rattle.theory.specs.Cycles.{among}
 use Rattle.theory.specs.Laws.{Loops, Rounds, RunsOut, Closes}
 use Rattle.theory.proofs.Cycles.{among_here, way_rest, cycle_leads, cycles_meet}
 use Rattle.theory.proofs.Trails.{off_fresh}

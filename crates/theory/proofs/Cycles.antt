@@ -1,12 +1,12 @@
 -- Cycles at the same heights are equal or apart, and pops of cycles that are apart can change turns. Assumes nothing.
-use Rattle.std.proofs.Common.{◌≡◌, ℕ, suc, ◌<◌, ◌≤◌, Bool, true, false, cond, ◌||◌, eqb, ◌⊎◌, List, [], ◌∷◌, ◌++◌, map, Some, None, Option, sym, refl, ap, ◌∙◌, subst, inl, inr, ⊎_elim, arith}
+use Rattle.std.proofs.Common.{◌≡◌, ℕ, suc, ◌<◌, ◌≤◌, Bool, true, false, cond, eqb, ◌⊎◌, List, [], ◌∷◌, Some, Option, sym, refl, ap, ◌∙◌, subst, inl, inr, ⊎_elim, arith}
 use mathlib.Core.Path.{fun_ext}
 use Rattle.std.specs.List.{AllByRecursion}
 use Rattle.std.proofs.ByRecursion.{All-weaker}
 use Rattle.std.proofs.lemmas.Bool.{eqb-true, eq-eqb, or_cases, or_left, or_right, false≢true, cases_Bool, both_ways}
 use Rattle.model.specs.Ways.{Way, Leads}
 use Rattle.model.specs.Arrows.{Arrows}
-use Rattle.theory.specs.Cycles.{Heights, seen, among, Cycle, Coloured, coloured, raise, Pops, Final}
+use Rattle.theory.specs.Cycles.{Heights, seen, among, Cycle, coloured, raise}
 use Rattle.model.specs.Distinct.{Fresh, Distinct}
 use Rattle.model.proofs.Ways.{same_some, way_once, way_distinct}
 

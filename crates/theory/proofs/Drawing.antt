@@ -1,19 +1,19 @@
 -- What holds of a draw after any calls: its heights come from popping cycles, and no cycle is left on settled vertices. Assumes nothing.
-use Rattle.std.proofs.Common.{◌≡◌, ℕ, zero, suc, ◌+◌, ◌<◌, ◌≤◌, Bool, true, false, cond, not, ◌&&◌, ◌||◌, eqb, ltb, ◌⊎◌, List, [], ◌∷◌, ◌++◌, map, length, get_or, drop, set, is_ok, Some, None, Ok, Err, Option, Result, sym, refl, ap, ◌∙◌, subst, inl, inr, ⊎_elim, append_assoc, append-nil, add-one, arith, length-append, length-drop, MatchOption}
+use Rattle.std.proofs.Common.{◌≡◌, ℕ, zero, suc, ◌+◌, ◌<◌, Bool, true, false, cond, not, ltb, ◌⊎◌, List, [], ◌∷◌, ◌++◌, map, length, get_or, drop, set, is_ok, Some, None, Option, Result, sym, refl, ap, ◌∙◌, subst, ⊎_elim, append_assoc, append-nil, arith, length-append, length-drop, MatchOption}
 use mathlib.Core.Path.{fun_ext}
 use Rattle.std.specs.List.{AllByRecursion}
 use Rattle.std.proofs.lemmas.List.{set_at, drop_more, length-map, map_push}
 use Rattle.std.proofs.lemmas.Bool.{false≢true, cases_Bool, both_ways, or_cases, or_left, or_right, ltb-true, eq-eqb, and_from, not-false, cases_lt}
-use Rattle.model.specs.Arrows.{Arrows, Cells, counts, sight}
+use Rattle.model.specs.Arrows.{Cells, counts, sight}
 use Rattle.theory.specs.Calls.{Strategy, After, first_fault, refused, pops_cycle, settles, by_trail, tries, telling, steps, none_open, stopped, preceded, all_told, runs_on, runs, Call, try_at, step, run, does, worked, popped_by, start}
-use Rattle.theory.specs.Cycles.{Heights, flat, seen, among, Cycle, Coloured, coloured, raise, Pops, Final}
+use Rattle.theory.specs.Cycles.{flat, seen, among, Cycle, Coloured, coloured, raise, Pops, Final}
 use Rattle.model.specs.Distinct.{Distinct}
-use Rattle.theory.specs.Draws.{no_entry, height_of, is_settled, changed, higher, shut, State, Held, opened, is_of, shown, Trail, trail, turned, record_of}
+use Rattle.theory.specs.Draws.{height_of, is_settled, changed, higher, shut, Held, opened, is_of, shown, Trail, trail, turned, record_of}
 use Rattle.theory.specs.Ends.{if_some}
 use Rattle.model.specs.Layouts.{Layout, Sound, is_root}
 use Rattle.model.specs.Orders.{open_marks}
 use Rattle.model.specs.Picks.{then}
-use Rattle.model.specs.Ways.{Way, Leads}
+use Rattle.model.specs.Ways.{Way}
 use Rattle.model.specs.declared.draw.Entry.{Entry}
 use Rattle.model.specs.declared.draw.Pop.{Pop}
 use Rattle.model.specs.declared.draw.Tried.{Tried}
@@ -21,11 +21,11 @@ use Rattle.model.specs.declared.draw.Stop.{Stop}
 use Rattle.model.specs.declared.draw.Stop.TheVariants.{Ended, Spent, Full}
 use Rattle.model.specs.declared.fault.DrawFault.{DrawFault}
 use Rattle.model.specs.declared.fault.DrawFault.TheVariants as fault
-use Rattle.theory.proofs.Cycles.{among_here, among_cases, among_all, all_among, way_rest, cycle_next, cycle_arrow, cycle_leads, cycle_same, raise_off}
-use Rattle.theory.proofs.Ends.{Stays, Within, cycle_below, stays}
+use Rattle.theory.proofs.Cycles.{among_here, among_cases, way_rest, cycle_arrow, cycle_leads, cycle_same, raise_off}
+use Rattle.theory.proofs.Ends.{Stays, cycle_below, stays}
 use Rattle.theory.proofs.Entries.{length_changed, raised_heights, settled_marks, raised_marks, settled_heights, opened_long, opened_heights, opened_marks, opened_past}
 use Rattle.theory.proofs.Popping.{pops_join}
-use Rattle.theory.proofs.Sights.{sight_within, visible_some, then_some}
+use Rattle.theory.proofs.Sights.{sight_within}
 use Rattle.theory.proofs.Trails.{Told, Round, Leaves, ClosedUnder, turned_among, turned_cycle, told}
 use Rattle.model.proofs.Ways.{none_some}
 

@@ -1,15 +1,15 @@
 -- The end is what its words say: a popping sequence by lowest cycles, with none left after, and the only one. Assumes nothing.
-use Rattle.std.proofs.Common.{◌≡◌, ℕ, zero, suc, ◌+◌, ◌-◌, ◌<◌, ◌≤◌, Bool, true, false, cond, eqb, ltb, ◌⊎◌, List, [], ◌∷◌, length, Some, None, Option, sym, refl, ap, ◌∙◌, subst, inl, inr, ⊎_elim, arith, MatchOption}
+use Rattle.std.proofs.Common.{◌≡◌, ℕ, zero, suc, ◌+◌, ◌-◌, ◌<◌, ◌≤◌, Bool, true, false, cond, eqb, ltb, List, [], ◌∷◌, length, Some, None, Option, sym, refl, ap, ◌∙◌, subst, ⊎_elim, arith, MatchOption}
 use mathlib.Core.Path.{fun_ext}
 use Rattle.std.specs.Option.{option_map}
 use Rattle.std.specs.List.{AllByRecursion}
-use Rattle.std.proofs.lemmas.Bool.{eqb-true, eq-eqb, ne_eqb, ltb-true, lt-ltb, cases_lt, cases_Bool}
+use Rattle.std.proofs.lemmas.Bool.{eqb-true, eq-eqb, ne_eqb, ltb-true, lt-ltb, cases_lt}
 use Rattle.model.specs.Ways.{Way}
 use Rattle.model.specs.Arrows.{Arrows}
 use Rattle.theory.specs.Cycles.{Heights, seen, among, Cycle, Coloured, coloured, raise, Pops, Final}
 use Rattle.theory.specs.Ends.{closes, lowest_cycle, End, noting, if_some, popped_out, HoldsLowest, LowestPops}
-use Rattle.model.specs.Picks.{then, first}
-use Rattle.theory.proofs.Cycles.{among_here, among_all, all_among, cycle_low, cycle_distinct, cycles_meet, raise_on, raise_up}
+use Rattle.model.specs.Picks.{then}
+use Rattle.theory.proofs.Cycles.{among_here, cycle_low, cycle_distinct, cycles_meet, raise_on, raise_up}
 use Rattle.model.proofs.Lowest.{NoAnswer, IsFirst, first_tells}
 use Rattle.model.proofs.Pigeons.{pigeons}
 use Rattle.model.proofs.Ways.{none_some, same_some, way_all}

@@ -1,12 +1,10 @@
 -- A run by any order that picks open vertices stops as ended, if its budget reaches the end's cycles plus the vertices and its list has room for those cycles. Assumes nothing.
-use Rattle.std.proofs.Common.{◌≡◌, ℕ, zero, suc, ◌+◌, ◌-◌, ◌<◌, ◌≤◌, Bool, true, false, cond, not, ◌&&◌, ◌||◌, eqb, ltb, ◌⊎◌, List, [], ◌∷◌, ◌++◌, map, length, get_or, drop, is_ok, Some, None, Ok, Err, Option, Result, sym, refl, ap, ◌∙◌, subst, inl, inr, ⊎_elim, append-nil, arith, length-append, length-drop, MatchOption}
-use Rattle.std.specs.List.{AllByRecursion}
+use Rattle.std.proofs.Common.{◌≡◌, ℕ, zero, suc, ◌+◌, ◌-◌, ◌<◌, ◌≤◌, Bool, true, false, cond, not, ltb, List, [], ◌∷◌, ◌++◌, map, length, get_or, drop, is_ok, Some, None, Ok, Option, Result, sym, refl, ap, ◌∙◌, subst, append-nil, arith, length-append, length-drop, MatchOption}
 use Rattle.std.proofs.lemmas.List.{length-map, get_or-map}
-use Rattle.std.proofs.lemmas.Bool.{false≢true, true≢false, cases_Bool, both_ways, eq-eqb, lt-ltb, not-true, not-false, or_right, or_left, and_from}
+use Rattle.std.proofs.lemmas.Bool.{false≢true, true≢false, both_ways, lt-ltb, not-true, not-false}
 use Rattle.model.specs.Arrows.{Cells, sight}
 use Rattle.theory.specs.Calls.{Strategy, once_told, After, first_fault, refused, pops_cycle, settles, by_trail, tries, telling, steps, none_open, open_count, stopped, preceded, all_told, runs_on, runs}
-use Rattle.theory.specs.Cycles.{flat, among, Cycle, Coloured, coloured, Pops}
-use Rattle.model.specs.Distinct.{Distinct}
+use Rattle.theory.specs.Cycles.{flat, among, Coloured, coloured, Pops}
 use Rattle.theory.specs.Draws.{no_entry, height_of, is_settled, changed_from, changed, higher, shut, Held, is_of, shown, Trail, trail_on, trail, turned, from_on, record_of}
 use Rattle.theory.specs.Ends.{if_some}
 use Rattle.model.specs.Layouts.{Layout, Sound}

@@ -1,21 +1,20 @@
 -- Every way of working a draw comes to one end, and no tree is favoured: the proof. Assumes nothing.
-use Rattle.std.proofs.Common.{◌≡◌, ℕ, ◌+◌, ◌<◌, ◌≤◌, Bool, true, false, cond, not, ◌&&◌, eqb, ltb, ◌⊎◌, List, [], ◌∷◌, ◌++◌, map, length, get_or, take, drop, replicate, Some, None, Ok, count_by, Option, Result, sym, refl, ap, ◌∙◌, subst, inl, inr, ⊎_elim, arith, MatchOption}
+use Rattle.std.proofs.Common.{◌≡◌, ℕ, ◌+◌, ◌<◌, ◌≤◌, Bool, true, false, not, eqb, ltb, List, [], ◌∷◌, ◌++◌, map, length, get_or, drop, replicate, Some, None, Ok, Option, Result, sym, refl, ap, ◌∙◌, subst, inl, inr, arith, MatchOption}
 use mathlib.Core.Path.{fun_ext}
 use Rattle.std.specs.Option.{option_or}
-use Rattle.std.specs.List.Sorted.{IsPermutation}
 use Rattle.std.proofs.lemmas.List.{length-replicate}
 use Rattle.std.proofs.lemmas.List.Sorted.{IsPermutation-trans, IsPermutation-sym}
-use Rattle.std.proofs.lemmas.Bool.{eqb-true, eq-eqb, eqb-false, and_parts, and_from, false≢true}
-use Rattle.model.specs.Arrows.{Cells, visible, sight, is_dry}
-use Rattle.theory.specs.Calls.{Strategy, Call, run, does, worked, popped_by, start, none_open, first_fault}
-use Rattle.theory.specs.Cycles.{Heights, flat, Coloured, Pops}
+use Rattle.std.proofs.lemmas.Bool.{eqb-true, eq-eqb, and_parts, and_from, false≢true}
+use Rattle.model.specs.Arrows.{Cells, visible, is_dry}
+use Rattle.theory.specs.Calls.{Strategy, Call, run, worked, popped_by, start, none_open, first_fault}
+use Rattle.theory.specs.Cycles.{Heights, Coloured}
 use Rattle.model.specs.Depths.{cells_fault}
 use Rattle.model.specs.Distinct.{In}
-use Rattle.theory.specs.Draws.{Held, is_of, height_of, record_of}
-use Rattle.theory.specs.Endings.{ports_at, lowest_dry, dry_fault, written, trees}
-use Rattle.theory.specs.Fillings.{drained, Filling, fillings}
-use Rattle.model.specs.Layouts.{Layout, Sound, is_root}
-use Rattle.theory.specs.OneEnd.{Over, SaysTree, heights_of, end_tree, AtEnd, Finishes, OnTheWay, Agree, Reseats, all_show, ends_in, OneEnd, OneEndByCalls}
+use Rattle.theory.specs.Draws.{Held, record_of}
+use Rattle.theory.specs.Endings.{ports_at, lowest_dry, dry_fault, written}
+use Rattle.theory.specs.Fillings.{drained, fillings}
+use Rattle.model.specs.Layouts.{Layout, Sound}
+use Rattle.theory.specs.OneEnd.{Over, SaysTree, heights_of, AtEnd, OnTheWay, Agree, Reseats, all_show, ends_in, OneEnd, OneEndByCalls}
 use Rattle.theory.specs.Outcomes.{end_of, Lawful}
 use Rattle.model.specs.Picks.{passes, lowest}
 use Rattle.theory.specs.Reseats.{cells_of, reseated, reseats_to, Shows}
@@ -32,7 +31,6 @@ use Rattle.theory.proofs.Outcomes.{end_law, end_only, end_pops, pops_among, popp
 use Rattle.theory.proofs.Reseating.{drained_in, in_drained, reseated_filling, reseated_shows, reseated_end, reseated_back, reseats_filling}
 use Rattle.theory.proofs.Sums.{lengths_sum}
 use Rattle.model.proofs.Trees.{tree_law}
-use Rattle.model.proofs.Ways.{none_some, same_some}
 
 -- ---- once no vertex is open
 

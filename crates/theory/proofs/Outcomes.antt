@@ -1,23 +1,18 @@
 -- What any calls come to: the end's cycles, each once, and its heights. Assumes nothing.
-use Rattle.std.proofs.Common.{◌≡◌, ℕ, zero, suc, ◌+◌, ◌-◌, ◌*◌, ◌<◌, ◌≤◌, Bool, true, false, cond, ◌⊎◌, List, [], ◌∷◌, ◌++◌, map, length, take, drop, sym, refl, ap, ◌∙◌, subst, inl, inr, ⊎_elim, append-nil, suc-mul, zero-mul, arith, length-append}
-use mathlib.Core.Path.{fun_ext}
-use Rattle.std.specs.List.{AllByRecursion}
+use Rattle.std.proofs.Common.{◌≡◌, ℕ, zero, suc, ◌+◌, ◌-◌, ◌*◌, ◌≤◌, true, List, ◌++◌, length, sym, ap, ◌∙◌, subst, append-nil, suc-mul, zero-mul, arith, length-append}
 use Rattle.std.specs.List.Sorted.{IsPermutation}
-use Rattle.std.proofs.lemmas.List.{length-map, take_at}
-use Rattle.std.proofs.lemmas.List.Sorted.{IsPermutation-trans, IsPermutation-sym, length_permutation}
-use Rattle.std.proofs.lemmas.Bool.{cases_Bool}
-use Rattle.model.specs.Arrows.{Arrows, Cells, sight}
-use Rattle.theory.specs.Calls.{Call, worked, popped_by, none_open, start}
-use Rattle.theory.specs.Cycles.{Heights, flat, seen, among, Cycle, Coloured, coloured, raise, Pops, Final}
+use Rattle.std.proofs.lemmas.List.Sorted.{length_permutation}
+use Rattle.model.specs.Arrows.{Cells, sight}
+use Rattle.theory.specs.Calls.{none_open}
+use Rattle.theory.specs.Cycles.{Heights, flat, Coloured, Pops, Final}
 use Rattle.model.specs.Distinct.{Distinct}
-use Rattle.theory.specs.Draws.{Held, height_of, record_of}
-use Rattle.theory.specs.Ends.{End, popped_out, LowestPops}
+use Rattle.theory.specs.Draws.{Held, height_of}
+use Rattle.theory.specs.Ends.{LowestPops}
 use Rattle.model.specs.Layouts.{Layout, Sound}
-use Rattle.theory.specs.Outcomes.{end_of, sum_below, lengths_of}
+use Rattle.theory.specs.Outcomes.{end_of}
 use Rattle.model.specs.declared.draw.Pop.{Pop}
-use Rattle.theory.proofs.Cycles.{cycle_distinct}
-use Rattle.theory.proofs.Drawing.{Good, calls_good, ended_final}
-use Rattle.theory.proofs.Ends.{Within, room, popped_out_law, end_one, lowest_pops, stays, cycle_below}
+use Rattle.theory.proofs.Drawing.{Good, ended_final}
+use Rattle.theory.proofs.Ends.{room, popped_out_law, end_one, lowest_pops}
 use Rattle.theory.proofs.Popping.{abelian, none_left, pops_distinct}
 use Rattle.theory.proofs.Sights.{sight_within}
 

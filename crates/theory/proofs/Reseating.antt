@@ -1,17 +1,16 @@
 -- Reseating by an ended draw gives a filling whose draws pop the same cycles and end in the new tree, and reseating back gives the old filling. Assumes nothing.
-use Rattle.std.proofs.Common.{◌≡◌, ℕ, zero, suc, ◌+◌, ◌<◌, ◌≤◌, Bool, true, false, cond, not, eqb, ltb, ◌≢◌, ◌⊎◌, List, [], ◌∷◌, ◌++◌, length, get_or, take, drop, set, is_some, Some, None, Ok, Option, sym, refl, ap, ◌∙◌, subst, inl, inr, ⊎_elim, append-nil, arith, length-set, get_or-set_other, get_or-set_same}
+use Rattle.std.proofs.Common.{◌≡◌, ℕ, ◌<◌, ◌≤◌, Bool, true, false, cond, not, ltb, ◌⊎◌, List, [], ◌∷◌, ◌++◌, length, get_or, take, drop, set, is_some, Some, None, Ok, Option, sym, refl, ap, ◌∙◌, subst, inl, inr, ⊎_elim, append-nil, arith, length-set, get_or-set_other, get_or-set_same}
 use mathlib.Core.Path.{fun_ext}
-use Rattle.std.specs.List.{range_with_len, AllByRecursion}
+use Rattle.std.specs.List.{range_with_len}
 use Rattle.std.specs.List.Sorted.{IsPermutation}
 use Rattle.std.specs.Option.{option_or}
 use Rattle.std.proofs.lemmas.List.{ext_get_or, take_all, drop_all}
-use Rattle.std.proofs.lemmas.Bool.{cases_eq, cases_lt, eqb-true, eqb-false, eq-eqb, ne_eqb, le-ltb, not-true, not_from_true, not_from_false, and_left, and_right, cases_Bool}
+use Rattle.std.proofs.lemmas.Bool.{cases_eq, cases_lt, eqb-false, ne_eqb, le-ltb, not-true, not_from_true, not_from_false, and_left, and_right, cases_Bool}
 use Rattle.model.specs.Arrows.{Cells, counts, visible, sight, is_dry}
 use Rattle.model.specs.Depths.{cells_fault}
 use Rattle.theory.specs.Calls.{first_fault, none_open}
 use Rattle.theory.specs.Cycles.{Heights, flat, seen, Cycle, Coloured, Pops, Final}
 use Rattle.model.specs.Distinct.{In, Fresh, Distinct}
-use Rattle.model.specs.Filed.{filed_cells}
 use Rattle.theory.specs.Draws.{State, is_of, height_of}
 use Rattle.theory.specs.Endings.{lowest_dry, dry_fault, end_fault, written}
 use Rattle.theory.specs.Fillings.{drained, cell_count, cell_place, Filling}
@@ -24,7 +23,7 @@ use Rattle.model.specs.declared.fault.DrawFault.{DrawFault}
 use Rattle.model.specs.declared.fault.DrawFault.TheVariants as fault
 use Rattle.model.specs.declared.tree.TreeCheck.TheVariants.{Tree}
 use Rattle.theory.proofs.Agreeing.{pops_agree, tree_no_cycle}
-use Rattle.theory.proofs.Fillings.{filling_long, place_inside, cell_port, cell_past, same_place, replaced_filling, replaced_here, replaced_other}
+use Rattle.theory.proofs.Fillings.{filling_long, place_inside, cell_port, cell_past, replaced_filling, replaced_here, replaced_other}
 use Rattle.theory.proofs.Outcomes.{to_end}
 use Rattle.theory.proofs.Members.{in_kept, kept_in, in_counting, counting_in, distinct_kept, distinct_counting}
 use Rattle.theory.proofs.Sights.{visible_some, visible_cell, sight_within}

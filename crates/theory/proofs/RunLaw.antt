@@ -1,7 +1,7 @@
 -- The laws of a step and a run: a run's tries are steps in a row, and it stops for the first reason that holds. Assumes nothing.
-use Rattle.std.proofs.Common.{◌≡◌, ℕ, zero, suc, ◌+◌, ◌<◌, ◌≤◌, Bool, true, false, cond, not, ◌&&◌, eqb, ltb, ◌⊎◌, List, [], ◌∷◌, length, get_or, is_ok, Some, None, Ok, Err, Option, Result, sym, refl, ap, ◌∙◌, subst, inl, inr, ⊎_elim, arith, MatchOption}
+use Rattle.std.proofs.Common.{◌≡◌, ℕ, zero, suc, ◌+◌, ◌<◌, Bool, true, false, cond, not, ◌&&◌, eqb, ltb, List, [], ◌∷◌, length, get_or, is_ok, Some, None, Ok, Err, Option, Result, sym, refl, ap, ◌∙◌, subst, ⊎_elim, arith}
 use Rattle.std.proofs.lemmas.List.{length-map}
-use Rattle.std.proofs.lemmas.Bool.{false≢true, true≢false, cases_Bool, both_ways, eqb-true, eq-eqb, and_parts, not-true, not-false, lt-ltb}
+use Rattle.std.proofs.lemmas.Bool.{false≢true, true≢false, cases_Bool, both_ways, eqb-true, and_parts, not-true, not-false, lt-ltb}
 use Rattle.model.specs.Arrows.{Cells}
 use Rattle.model.specs.Layouts.{Layout, Sound}
 use Rattle.model.specs.Orders.{open_marks, PicksOpen}
@@ -11,11 +11,10 @@ use Rattle.model.specs.declared.draw.Stop.TheVariants.{Ended, Spent, Full}
 use Rattle.model.specs.declared.draw.Tried.{Tried}
 use Rattle.model.specs.declared.fault.DrawFault.{DrawFault}
 use Rattle.model.specs.declared.fault.DrawFault.TheVariants as fault
-use Rattle.model.proofs.Ways.{none_some, same_some}
-use Rattle.theory.specs.Calls.{Strategy, once_told, all_told, After, first_fault, refused, settles, pops_cycle, by_trail, tries, telling, steps, none_open, open_count, stopped, preceded, runs_on, runs}
-use Rattle.theory.specs.Draws.{no_entry, is_settled, changed, higher, shut, Held, is_of, Trail, trail, turned}
+use Rattle.theory.specs.Calls.{Strategy, once_told, all_told, After, first_fault, refused, settles, pops_cycle, by_trail, tries, telling, steps, none_open, stopped, preceded, runs_on}
+use Rattle.theory.specs.Draws.{is_settled, changed, higher, shut, Held, is_of, Trail, trail, turned}
 use Rattle.theory.specs.Ends.{if_some}
-use Rattle.theory.specs.Laws.{TryLaw, StepLaw, Position, stepped, in_a_row, next_answer, Goes_on, Stops, RunLaw}
+use Rattle.theory.specs.Laws.{TryLaw, StepLaw, stepped, in_a_row, Goes_on, Stops, RunLaw}
 use Rattle.theory.specs.Outcomes.{Lawful}
 use Rattle.theory.proofs.Entries.{length_changed}
 use Rattle.theory.proofs.Finishing.{none_settled, open_at}

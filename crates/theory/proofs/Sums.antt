@@ -1,11 +1,11 @@
 -- The recorded lengths add up to the sum of the heights. Assumes nothing.
-use Rattle.std.proofs.Common.{◌≡◌, ℕ, zero, suc, ◌+◌, ◌<◌, ◌≤◌, Bool, true, false, cond, ◌||◌, eqb, ltb, List, [], ◌∷◌, map, length, take, drop, sym, refl, ap, ◌∙◌, subst, ⊎_elim, arith}
+use Rattle.std.proofs.Common.{◌≡◌, ℕ, zero, suc, ◌+◌, ◌<◌, Bool, true, false, cond, ◌||◌, eqb, ltb, List, [], ◌∷◌, map, length, take, drop, sym, refl, ap, ◌∙◌, ⊎_elim, arith}
 use mathlib.Core.Path.{fun_ext}
 use Rattle.std.specs.List.{AllByRecursion}
 use Rattle.std.proofs.lemmas.List.{length-map, take_at}
-use Rattle.std.proofs.lemmas.Bool.{eqb-true, eqb-false, eq-eqb, lt-ltb, le-ltb, ltb-true, ltb-false, cases_Bool, both_ways}
+use Rattle.std.proofs.lemmas.Bool.{eqb-true, eqb-false, lt-ltb, le-ltb, ltb-true, ltb-false, cases_Bool}
 use Rattle.model.specs.Arrows.{Arrows, Cells, sight}
-use Rattle.theory.specs.Cycles.{Heights, flat, seen, among, Cycle, Coloured, coloured, raise, Pops}
+use Rattle.theory.specs.Cycles.{Heights, flat, seen, among, Coloured, raise, Pops}
 use Rattle.model.specs.Distinct.{Fresh, Distinct}
 use Rattle.theory.specs.Draws.{Held, height_of, record_of}
 use Rattle.model.specs.Layouts.{Layout, Sound}

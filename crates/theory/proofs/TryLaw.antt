@@ -1,7 +1,7 @@
 -- The law of a try: it pops exactly if the way along visible arrows closes, and else settles exactly the open vertices of that way. Assumes nothing.
-use Rattle.std.proofs.Common.{◌≡◌, ℕ, zero, suc, ◌+◌, ◌<◌, ◌≤◌, Bool, true, false, cond, not, ◌||◌, ltb, ◌⊎◌, List, [], ◌∷◌, ◌++◌, length, get_or, set, IfSome, Some, None, Ok, Err, Option, Result, sym, refl, ap, ◌∙◌, subst, inl, inr, ⊎_elim, append_assoc, append-nil, arith, MatchOption}
+use Rattle.std.proofs.Common.{◌≡◌, ℕ, zero, suc, ◌+◌, ◌<◌, ◌≤◌, Bool, true, false, cond, not, ltb, ◌⊎◌, List, [], ◌∷◌, ◌++◌, length, get_or, set, IfSome, Some, None, Ok, Err, Option, Result, sym, refl, ap, ◌∙◌, subst, inl, inr, ⊎_elim, append_assoc, append-nil, arith, MatchOption}
 use Rattle.std.specs.List.{AllByRecursion}
-use Rattle.std.proofs.lemmas.Bool.{false≢true, true≢false, cases_Bool, both_ways, or_cases, or_left, or_right, ltb-true, ltb-false, not-false, eqb-true, and_parts}
+use Rattle.std.proofs.lemmas.Bool.{false≢true, cases_Bool, both_ways, or_cases, or_left, or_right, ltb-true, ltb-false, not-false, eqb-true, and_parts}
 use Rattle.model.specs.Arrows.{Cells}
 use Rattle.model.specs.Distinct.{Distinct}
 use Rattle.model.specs.Layouts.{Layout, Sound}
@@ -13,15 +13,15 @@ use Rattle.model.specs.declared.draw.Tried.{Tried}
 use Rattle.model.specs.declared.draw.Tried.TheVariants.{Popped, Settled}
 use Rattle.model.specs.declared.fault.DrawFault.{DrawFault}
 use Rattle.model.specs.declared.fault.DrawFault.TheVariants as fault
-use Rattle.theory.specs.Calls.{After, first_fault, refused, pops_cycle, settles, by_trail, tries, open_count}
-use Rattle.theory.specs.Cycles.{among, Cycle, coloured}
-use Rattle.theory.specs.Draws.{no_entry, height_of, is_settled, changed_from, changed, higher, shut, Held, is_of, shown, Trail, trail_on, trail, from_on, turned, record_of}
+use Rattle.theory.specs.Calls.{first_fault, refused, pops_cycle, settles, by_trail, tries, open_count}
+use Rattle.theory.specs.Cycles.{among, coloured}
+use Rattle.theory.specs.Draws.{no_entry, height_of, is_settled, changed, shut, Held, is_of, shown, Trail, trail_on, trail, from_on, turned, record_of}
 use Rattle.theory.specs.Ends.{if_some}
-use Rattle.theory.specs.Laws.{onward, RunsOut, Closes, open_arrows, PoppedOff, SettledAlong, TryLaw}
+use Rattle.theory.specs.Laws.{onward, RunsOut, Closes, open_arrows, TryLaw}
 use Rattle.theory.proofs.Closing.{lead_more, not_both, closes_rounds}
 use Rattle.theory.proofs.Cycles.{among_here, among_all, all_among, cycle_same}
 use Rattle.theory.proofs.Drawing.{round_cycle, shown_to}
-use Rattle.theory.proofs.Entries.{changed_nothing, length_changed, get_or_changed, changed_off, changed_more, raised_heights, settled_marks, raised_marks, settled_heights}
+use Rattle.theory.proofs.Entries.{changed_nothing, length_changed, changed_off, changed_more, raised_heights, settled_marks, raised_marks, settled_heights}
 use Rattle.theory.proofs.Finishing.{trail_holds}
 use Rattle.theory.proofs.Trails.{Told, Round, Leaves, ClosedUnder, among_push, among_turned, turned_among, distinct_off}
 

@@ -1,12 +1,11 @@
 -- What the calls of a draw do: try, step and run, and lists of them. Assumes nothing.
-use Rattle.std.specs.Prelude.{◌≡◌, ℕ, zero, suc, Bool, true, false, cond, not, List, [], ◌∷◌, ◌++◌, length, is_some, is_ok, Some, None, Ok, Err, Option, Result, nat_lt, slice_set}
+use Rattle.std.specs.Prelude.{ℕ, zero, suc, Bool, true, false, cond, not, List, [], ◌∷◌, ◌++◌, length, is_ok, Some, None, Ok, Err, Option, Result, nat_lt, slice_set}
 use Rattle.model.specs.Arrows.{Cells}
 use Rattle.theory.specs.Cycles.{Coloured, coloured}
-use Rattle.theory.specs.Draws.{State, Held, Trail, opened, is_of, is_settled, height_of, trail, turned, changed, higher, shut, record_of}
+use Rattle.theory.specs.Draws.{Held, Trail, opened, is_of, is_settled, height_of, trail, turned, changed, higher, shut, record_of}
 use Rattle.theory.specs.Ends.{if_some}
 use Rattle.model.specs.Layouts.{Layout}
 use Rattle.model.specs.Orders.{open_marks}
-use Rattle.model.specs.Picks.{lowest}
 use Rattle.model.specs.declared.draw.Entry.{Entry}
 use Rattle.model.specs.declared.draw.Pop.{Pop}
 use Rattle.model.specs.declared.draw.Stop.{Stop}

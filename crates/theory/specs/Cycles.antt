@@ -1,5 +1,5 @@
 -- Cycles of arrows, and popping them. An arrow has a vertex and a height: `arrows v k` is where the arrow of v at height k leads. Assumes nothing.
-use Rattle.std.specs.Prelude.{◌≡◌, ℕ, suc, ◌<◌, ◌≤◌, Bool, false, cond, ◌||◌, List, [], ◌∷◌, map, Option, ◌==◌}
+use Rattle.std.specs.Prelude.{◌≡◌, ℕ, suc, ◌<◌, Bool, false, cond, ◌||◌, List, [], ◌∷◌, map, Option, ◌==◌}
 use Rattle.std.specs.List.{AllByRecursion}
 use Rattle.model.specs.Arrows.{Arrows}
 use Rattle.model.specs.Ways.{Way}

@@ -1,16 +1,12 @@
 -- Draws: what one holds, the trail of a vertex, and what trying a vertex does. Assumes nothing.
-use Rattle.std.specs.Prelude.{◌≡◌, ℕ, zero, suc, min, Bool, true, false, cond, not, ◌&&◌, List, [], ◌∷◌, ◌++◌, map, length, Some, None, Ok, Err, Option, Result, ◌==◌, slice_index_or}
+use Rattle.std.specs.Prelude.{ℕ, zero, suc, min, Bool, true, false, cond, ◌&&◌, List, [], ◌∷◌, ◌++◌, map, length, Some, None, Option, ◌==◌, slice_index_or}
 use Rattle.std.specs.List.{range_with_len}
 use Rattle.model.specs.Arrows.{Cells, sight}
-use Rattle.theory.specs.Cycles.{Heights, seen, among, Coloured, coloured}
+use Rattle.theory.specs.Cycles.{Heights, seen, among, Coloured}
 use Rattle.theory.specs.Ends.{if_some}
 use Rattle.model.specs.Layouts.{Layout, is_root}
 use Rattle.model.specs.declared.draw.Entry.{Entry}
 use Rattle.model.specs.declared.draw.Pop.{Pop}
-use Rattle.model.specs.declared.draw.Tried.{Tried}
-use Rattle.model.specs.declared.draw.Tried.TheVariants.{Popped, Settled}
-use Rattle.model.specs.declared.fault.DrawFault.{DrawFault}
-use Rattle.model.specs.declared.fault.DrawFault.TheVariants as fault
 
 -- ---- entries
 

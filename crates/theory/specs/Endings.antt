@@ -1,12 +1,11 @@
 -- What asking an ended draw for its tree answers and writes. Assumes nothing.
-use Rattle.std.specs.Prelude.{ℕ, Bool, cond, not, List, [], ◌∷◌, ◌++◌, map, length, drop, Some, None, Ok, Err, Option, Result, nat_lt}
+use Rattle.std.specs.Prelude.{ℕ, not, List, [], ◌∷◌, ◌++◌, map, length, drop, Some, None, Ok, Err, Option, Result, nat_lt}
 use Rattle.std.specs.List.{range_with_len}
 use Rattle.std.specs.Option.{unwrap_or, option_or}
 use Rattle.model.specs.Arrows.{Cells, visible, is_dry}
 use Rattle.theory.specs.Calls.{first_fault, none_open}
 use Rattle.theory.specs.Cycles.{Heights}
 use Rattle.theory.specs.Draws.{State, is_of, height_of}
-use Rattle.theory.specs.Ends.{if_some}
 use Rattle.model.specs.Layouts.{Layout}
 use Rattle.model.specs.Picks.{lowest}
 use Rattle.model.specs.declared.fault.DrawFault.{DrawFault}

@@ -12,7 +12,7 @@ use Rattle.model.specs.declared.draw.Tried.{Tried}
 use Rattle.model.specs.declared.draw.Tried.TheVariants.{Popped, Settled}
 use Rattle.model.specs.declared.fault.DrawFault.{DrawFault}
 use Rattle.model.specs.declared.fault.DrawFault.TheVariants as fault
-use Rattle.theory.specs.Calls.{Strategy, After, steps, none_open, open_count, all_told}
+use Rattle.theory.specs.Calls.{Strategy, steps, none_open, open_count, all_told}
 use Rattle.theory.specs.Cycles.{among, Cycle, coloured, raise}
 use Rattle.theory.specs.Draws.{Held, is_of, height_of, is_settled, shown, record_of}
 

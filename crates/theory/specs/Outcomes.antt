@@ -1,5 +1,5 @@
 -- What is said of draws that were worked by any calls. Assumes nothing.
-use Rattle.std.specs.Prelude.{◌≡◌, ℕ, zero, suc, ◌+◌, ◌*◌, Bool, List, [], ◌∷◌}
+use Rattle.std.specs.Prelude.{ℕ, zero, suc, ◌+◌, ◌*◌, Bool, List, [], ◌∷◌}
 use Rattle.model.specs.Arrows.{Cells, sight}
 use Rattle.theory.specs.Calls.{Strategy}
 use Rattle.theory.specs.Cycles.{Heights, flat}

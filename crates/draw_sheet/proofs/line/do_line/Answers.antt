@@ -1,4 +1,4 @@
-use Rattle.std.proofs.Common.{◌≡◌, List, [], length, Ok, Err, sym, ap, ◌∙◌, inr, true-eqb, false-eqb}
+use Rattle.std.proofs.Common.{◌≡◌, [], length, Ok, Err, sym, ap, ◌∙◌, inr, true-eqb, false-eqb}
 use Rattle.std.proofs.lemmas.List.{nil_from_length}
 use Rattle.draw_commands.specs.Answers.{answer, asked}
 use Rattle.draw_commands.specs.Commands.{command_of}

@@ -1,4 +1,4 @@
-use Rattle.std.proofs.Common.{◌≡◌, ℕ, ◌+◌, Bool, ltb, length, vec_items, sym, ap, ◌∙◌, inl}
+use Rattle.std.proofs.Common.{◌≡◌, ℕ, ◌+◌, ltb, length, vec_items, sym, ap, ◌∙◌, inl}
 use Rattle.model.specs.Depths.{cells_to}
 use Rattle.plans.specs.Anys.{any_layout}
 use Rattle.session.proofs.Desking.{cells_not, cells_done}
