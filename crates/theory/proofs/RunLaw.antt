@@ -14,7 +14,7 @@ use Rattle.model.specs.declared.fault.DrawFault.TheVariants as fault
 use Rattle.theory.specs.Calls.{Strategy, once_told, all_told, After, first_fault, refused, settles, pops_cycle, by_trail, tries, telling, steps, none_open, stopped, preceded, runs_on}
 use Rattle.theory.specs.Draws.{is_settled, changed, higher, shut, Held, is_of, Trail, trail, turned}
 use Rattle.theory.specs.Ends.{if_some}
-use Rattle.theory.specs.Laws.{TryLaw, StepLaw, stepped, in_a_row, Goes_on, Stops, RunLaw}
+use Rattle.theory.specs.Laws.{TryLaw, StepLaw, stepped, in_a_row, GoesOn, Stops, RunLaw}
 use Rattle.theory.specs.Outcomes.{Lawful}
 use Rattle.theory.proofs.Entries.{length_changed}
 use Rattle.theory.proofs.Finishing.{none_settled, open_at}
@@ -143,7 +143,7 @@ module _ (p : Layout) (a : Cells) (sound : Sound p) where
     pub why : Stop
     pub answers : x.answer ≡ Ok (made + more, why)
     pub steps_made : (in_a_row p a more (record { order = s; held = h })).held ≡ x.held
-    pub went_on : (k : ℕ) → k < more → Goes_on p a (made + left) (made + k) (in_a_row p a k (record { order = s; held = h }))
+    pub went_on : (k : ℕ) → k < more → GoesOn p a (made + left) (made + k) (in_a_row p a k (record { order = s; held = h }))
     pub stopped_for : Stops p a (made + left) (made + more) (in_a_row p a more (record { order = s; held = h })) why
 
   at_once : (s : Strategy) (left made : ℕ) (h : Held) (why : Stop) → Stops p a (made + left) (made + 0) (record { order = s; held = h }) why → RestOf s left made h (stopped h made why)
@@ -170,7 +170,7 @@ module _ (p : Layout) (a : Cells) (sound : Sound p) where
         stopped_for = subst (λ k. Stops p a (made + suc left) k (in_a_row p a rest.more (stepped p a (record { order = s; held = h }))) rest.why) at (subst (λ b. Stops p a b (suc made + rest.more) (in_a_row p a rest.more (stepped p a (record { order = s; held = h }))) rest.why) budget rest.stopped_for);
       }
     where
-      goes : (k : ℕ) → k < suc rest.more → Goes_on p a (made + suc left) (made + k) (in_a_row p a k (record { order = s; held = h }))
+      goes : (k : ℕ) → k < suc rest.more → GoesOn p a (made + suc left) (made + k) (in_a_row p a k (record { order = s; held = h }))
       goes zero low = record { some_open = some; not_spent = omega arith; has_room = ok }
       goes (suc k) low =
           let g = rest.went_on k (omega arith) in

@@ -104,7 +104,7 @@ abbrev pub next_answer : Layout → Cells → Position → Result Tried DrawFaul
 next_answer p a x = (steps p a x.order x.held).answer
 
 -- after k tries a run goes on: a vertex is open, the tries do not equal the budget, and the step is not refused
-pub record Goes_on (p : Layout) (a : Cells) (budget k : ℕ) (x : Position) : Type 0 where
+pub record GoesOn (p : Layout) (a : Cells) (budget k : ℕ) (x : Position) : Type 0 where
   pub some_open : none_open x.held.draw.entries ≡ false
   pub not_spent : k < budget
   pub has_room : is_ok (next_answer p a x) ≡ true
@@ -118,5 +118,5 @@ Stops p a budget k x Full = (none_open x.held.draw.entries ≡ false) × (k < bu
 -- the law of a run: its tries are that many steps in a row, before each of which it went on, and then it stopped for that reason
 pub record RunLaw (p : Layout) (a : Cells) (s : Strategy) (budget : ℕ) (before after : Held) (tries : ℕ) (why : Stop) : Type 0 where
   pub steps_made : (in_a_row p a tries (record { order = s; held = before })).held ≡ after
-  pub went_on : (k : ℕ) → k < tries → Goes_on p a budget k (in_a_row p a k (record { order = s; held = before }))
+  pub went_on : (k : ℕ) → k < tries → GoesOn p a budget k (in_a_row p a k (record { order = s; held = before }))
   pub stopped_for : Stops p a budget tries (in_a_row p a tries (record { order = s; held = before })) why
