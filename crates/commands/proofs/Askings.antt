@@ -1,87 +1,110 @@
--- What the words of a line ask for, by how many they are. Assumes nothing.
+-- What the words after a command's name say, by how many they are. Assumes nothing.
 use Rattle.std.proofs.Common.{◌≡◌, ℕ, ◌+◌, ◌<◌, ◌≤◌, Bool, cond, List, [], ◌∷◌, ◌++◌, length, get_or, drop, Ok, Err, codes, Result, sym, refl, ap, ◌∙◌, append_assoc, append-nil, arith, Bor}
 use Rattle.std.proofs.lemmas.List.{at_drop_more, at_drop_all}
 use Rattle.std.specs.Str.{bytes_eq}
-use Rattle.commands.specs.Commands.{help, pair_of, sized_of, ends_of, port_of, before, then_ports, ports_of, help_of}
-use Rattle.commands.specs.Words.{bytes}
+use Rattle.commands.specs.Args.{and_then, entry_of, list_of, single_of, two_of, around_of}
+use Rattle.commands.specs.Commands.{Asked, walk, alone_of, listed_of, order_of}
+use Rattle.tokens.specs.Words.{bytes}
+use Rattle.commands.specs.declared.args.Dash.{Dash}
 use Rattle.commands.specs.declared.command.Mistake.{Mistake}
-use Rattle.commands.specs.declared.command.Mistake.TheVariants.{Count, Root}
+use Rattle.commands.specs.declared.command.Mistake.TheVariants.{Count}
 
 -- the word at i as the code reads it
 abbrev pub word_at : List (Bor (List ℕ)) → ℕ → List ℕ
 word_at ws i = (get_or ws i (record { ref_ptr = (0, 0); now = [] })).now
 
-three : (ws : List (Bor (List ℕ))) → length ws ≡ 3 → bytes ws ≡ word_at ws 0 ∷ word_at ws 1 ∷ word_at ws 2 ∷ []
-three [] e = absurd (omega arith)
-three (a ∷ []) e = absurd (omega arith)
-three (a ∷ b ∷ []) e = absurd (omega arith)
-three (a ∷ b ∷ c ∷ []) e = refl
-three (a ∷ b ∷ c ∷ d ∷ ws) e = absurd (omega arith)
+pub one_word : (ws : List (Bor (List ℕ))) → length ws ≡ 1 → Ok (word_at ws 0) ≡ single_of (bytes ws)
+one_word [] e = absurd (omega arith)
+one_word (a ∷ []) e = refl
+one_word (a ∷ b ∷ ws) e = absurd (omega arith)
 
-two : (ws : List (Bor (List ℕ))) → length ws ≡ 2 → bytes ws ≡ word_at ws 0 ∷ word_at ws 1 ∷ []
-two [] e = absurd (omega arith)
-two (a ∷ []) e = absurd (omega arith)
-two (a ∷ b ∷ []) e = refl
-two (a ∷ b ∷ c ∷ ws) e = absurd (omega arith)
+pub not_one : (ws : List (Bor (List ℕ))) → (length ws ≡ 1 → ⊥) → Err Count ≡ single_of (bytes ws)
+not_one [] other = refl
+not_one (a ∷ []) other = absurd (other refl)
+not_one (a ∷ b ∷ ws) other = refl
 
--- three words, of which the second is `root` or not
-pub rooted : (ws : List (Bor (List ℕ))) (is : Bool) → length ws ≡ 3 → is ≡ bytes_eq (word_at ws 1) (codes "root") → cond is (pair_of (word_at ws 0) (word_at ws 2)) (Err Root) ≡ sized_of (bytes ws)
-rooted ws is long same =
-    ap (λ (t : Bool). cond t (pair_of (word_at ws 0) (word_at ws 2)) (Err Root)) same ∙ ap sized_of (sym (three ws long))
+pub two_words : (ws : List (Bor (List ℕ))) → length ws ≡ 2 → Ok (word_at ws 0, word_at ws 1) ≡ two_of (bytes ws)
+two_words [] e = absurd (omega arith)
+two_words (a ∷ []) e = absurd (omega arith)
+two_words (a ∷ b ∷ []) e = refl
+two_words (a ∷ b ∷ c ∷ ws) e = absurd (omega arith)
 
-pub not_three : (ws : List (Bor (List ℕ))) → (length ws ≡ 3 → ⊥) → Err Count ≡ sized_of (bytes ws)
-not_three [] other = refl
-not_three (a ∷ []) other = refl
-not_three (a ∷ b ∷ []) other = refl
-not_three (a ∷ b ∷ c ∷ []) other = absurd (other refl)
-not_three (a ∷ b ∷ c ∷ d ∷ ws) other = refl
-
-pub two_ends : (ws : List (Bor (List ℕ))) → length ws ≡ 2 → pair_of (word_at ws 0) (word_at ws 1) ≡ ends_of (bytes ws)
-two_ends ws long = ap ends_of (sym (two ws long))
-
-pub not_two : (ws : List (Bor (List ℕ))) → (length ws ≡ 2 → ⊥) → Err Count ≡ ends_of (bytes ws)
+pub not_two : (ws : List (Bor (List ℕ))) → (length ws ≡ 2 → ⊥) → Err Count ≡ two_of (bytes ws)
 not_two [] other = refl
 not_two (a ∷ []) other = refl
 not_two (a ∷ b ∷ []) other = absurd (other refl)
 not_two (a ∷ b ∷ c ∷ ws) other = refl
 
-pub no_words : (ws : List (Bor (List ℕ))) → length ws ≡ 0 → Ok help ≡ help_of (bytes ws)
-no_words [] e = refl
-no_words (w ∷ ws) e = absurd (omega arith)
+-- three words, of which the second is the fixed one or not
+pub fixed_word : (text : List ℕ) (missing : Mistake) (ws : List (Bor (List ℕ))) (is : Bool) → length ws ≡ 3 → is ≡ bytes_eq (word_at ws 1) text → cond is (Ok (word_at ws 0, word_at ws 2)) (Err missing) ≡ around_of text missing (bytes ws)
+fixed_word text missing [] is e same = absurd (omega arith)
+fixed_word text missing (a ∷ []) is e same = absurd (omega arith)
+fixed_word text missing (a ∷ b ∷ []) is e same = absurd (omega arith)
+fixed_word text missing (a ∷ b ∷ c ∷ []) is e same = ap (λ (t : Bool). cond t (Ok (a.now, c.now)) (Err missing)) same
+fixed_word text missing (a ∷ b ∷ c ∷ d ∷ ws) is e same = absurd (omega arith)
 
-pub some_words : (ws : List (Bor (List ℕ))) → (length ws ≡ 0 → ⊥) → Err Count ≡ help_of (bytes ws)
-some_words [] other = absurd (other refl)
-some_words (w ∷ ws) other = refl
+pub not_three : (text : List ℕ) (missing : Mistake) (ws : List (Bor (List ℕ))) → (length ws ≡ 3 → ⊥) → Err Count ≡ around_of text missing (bytes ws)
+not_three text missing [] other = refl
+not_three text missing (a ∷ []) other = refl
+not_three text missing (a ∷ b ∷ []) other = refl
+not_three text missing (a ∷ b ∷ c ∷ []) other = absurd (other refl)
+not_three text missing (a ∷ b ∷ c ∷ d ∷ ws) other = refl
 
--- ports that were read, and the rest
+pub no_words : (what : Asked) (ws : List (Bor (List ℕ))) → length ws ≡ 0 → Ok what ≡ alone_of what (bytes ws)
+no_words what [] e = refl
+no_words what (w ∷ ws) e = absurd (omega arith)
+
+pub some_words : (what : Asked) (ws : List (Bor (List ℕ))) → (length ws ≡ 0 → ⊥) → Err Count ≡ alone_of what (bytes ws)
+some_words what [] other = absurd (other refl)
+some_words what (w ∷ ws) other = refl
+
+pub no_order : (ws : List (Bor (List ℕ))) → length ws ≡ 0 → Err Count ≡ order_of (bytes ws)
+no_order [] e = refl
+no_order (w ∷ ws) e = absurd (omega arith)
+
+-- one word, which is `walk` or not
+pub order_by_word : (ws : List (Bor (List ℕ))) (is : Bool) → length ws ≡ 1 → is ≡ bytes_eq (word_at ws 0) (codes "walk") → cond is (Ok walk) (listed_of (bytes ws)) ≡ order_of (bytes ws)
+order_by_word [] is e same = absurd (omega arith)
+order_by_word (a ∷ []) is e same = ap (λ (t : Bool). cond t (Ok walk) (listed_of (a.now ∷ []))) same
+order_by_word (a ∷ b ∷ ws) is e same = absurd (omega arith)
+
+pub order_by_words : (ws : List (Bor (List ℕ))) → 2 ≤ length ws → listed_of (bytes ws) ≡ order_of (bytes ws)
+order_by_words [] some = absurd (omega arith)
+order_by_words (a ∷ []) some = absurd (omega arith)
+order_by_words (a ∷ b ∷ ws) some = refl
+
+-- numbers that were read, and the rest
 abbrev pub behind : List ℕ → Result (List ℕ) Mistake → Result (List ℕ) Mistake
-behind ps (Err e) = Err e
-behind ps (Ok qs) = Ok (ps ++ qs)
-
-behind_before : (ps : List ℕ) (p : ℕ) (rest : Result (List ℕ) Mistake) → behind (ps ++ p ∷ []) rest ≡ behind ps (before p rest)
-behind_before ps p (Err e) = refl
-behind_before ps p (Ok qs) = ap Ok (append_assoc ps (p ∷ []) qs)
+behind ns rest = and_then rest (λ ms. Ok (ns ++ ms))
 
 pub behind_none : (r : Result (List ℕ) Mistake) → behind [] r ≡ r
 behind_none (Err e) = refl
-behind_none (Ok qs) = refl
+behind_none (Ok ms) = refl
 
-ports_at : (ws : List (Bor (List ℕ))) (i : ℕ) → i < length ws → ports_of (bytes (drop i ws)) ≡ then_ports (port_of (word_at ws i)) (ports_of (bytes (drop (i + 1) ws)))
-ports_at ws i within = at_drop_more (λ (l : List (Bor (List ℕ))). ports_of (bytes l)) ws i _ within
+-- a number, or its mistake, and then the rest
+abbrev before : Result ℕ Mistake → Result (List ℕ) Mistake → Result (List ℕ) Mistake
+before n rest = and_then n (λ m. and_then rest (λ ms. Ok (m ∷ ms)))
 
--- the word at i is a port
-pub port_more : (ws : List (Bor (List ℕ))) (i : ℕ) (ps : List ℕ) (p : ℕ) → i < length ws → Ok p ≡ port_of (word_at ws i) → behind (ps ++ p ∷ []) (ports_of (bytes (drop (i + 1) ws))) ≡ behind ps (ports_of (bytes (drop i ws)))
-port_more ws i ps p within is =
-    let rest = ports_of (bytes (drop (i + 1) ws)) in
-    behind_before ps p rest ∙ ap (λ (r : Result ℕ Mistake). behind ps (then_ports r rest)) is ∙ ap (behind ps) (sym (ports_at ws i within))
+behind_before : (ns : List ℕ) (n : ℕ) (rest : Result (List ℕ) Mistake) → behind (ns ++ n ∷ []) rest ≡ behind ns (before (Ok n) rest)
+behind_before ns n (Err e) = refl
+behind_before ns n (Ok ms) = ap Ok (append_assoc ns (n ∷ []) ms)
 
--- the word at i is a mistake
-pub port_wrong : (ws : List (Bor (List ℕ))) (i : ℕ) (ps : List ℕ) (e : Mistake) → i < length ws → Err e ≡ port_of (word_at ws i) → Err e ≡ behind ps (ports_of (bytes (drop i ws)))
-port_wrong ws i ps e within is =
-    let rest = ports_of (bytes (drop (i + 1) ws)) in
-    ap (λ (r : Result ℕ Mistake). behind ps (then_ports r rest)) is ∙ ap (behind ps) (sym (ports_at ws i within))
+module _ (dash : Dash) (ws : List (Bor (List ℕ))) (i : ℕ) (ns : List ℕ) where
+  -- the rest where the word at i was read
+  entry_at : (r : Result ℕ Mistake) → i < length ws → r ≡ entry_of dash (word_at ws i) → behind ns (before r (list_of dash (bytes (drop (i + 1) ws)))) ≡ behind ns (list_of dash (bytes (drop i ws)))
+  entry_at r within is =
+      ap (λ (n : Result ℕ Mistake). behind ns (before n (list_of dash (bytes (drop (i + 1) ws))))) is
+      ∙ ap (behind ns) (sym (at_drop_more (λ (l : List (Bor (List ℕ))). list_of dash (bytes l)) ws i _ within))
 
--- no word is left
-pub ports_done : (ws : List (Bor (List ℕ))) (i : ℕ) (ps : List ℕ) → length ws ≤ i → Ok ps ≡ behind ps (ports_of (bytes (drop i ws)))
-ports_done ws i ps past =
-    ap Ok (sym (append-nil ps)) ∙ ap (behind ps) (sym (at_drop_all (λ (l : List (Bor (List ℕ))). ports_of (bytes l)) ws i past))
+  -- the word at i is a number
+  pub entry_more : (n : ℕ) → i < length ws → Ok n ≡ entry_of dash (word_at ws i) → behind (ns ++ n ∷ []) (list_of dash (bytes (drop (i + 1) ws))) ≡ behind ns (list_of dash (bytes (drop i ws)))
+  entry_more n within is = behind_before ns n _ ∙ entry_at (Ok n) within is
+
+  -- the word at i is a mistake
+  pub entry_wrong : (e : Mistake) → i < length ws → Err e ≡ entry_of dash (word_at ws i) → Err e ≡ behind ns (list_of dash (bytes (drop i ws)))
+  entry_wrong e within is = entry_at (Err e) within is
+
+  -- no word is left
+  pub entries_done : length ws ≤ i → Ok ns ≡ behind ns (list_of dash (bytes (drop i ws)))
+  entries_done past =
+      ap Ok (sym (append-nil ns)) ∙ ap (behind ns) (sym (at_drop_all (λ (l : List (Bor (List ℕ))). list_of dash (bytes l)) ws i past))

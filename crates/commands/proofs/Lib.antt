@@ -1,4 +1,1 @@
 mod Askings
-mod Cuts
-mod Laws
-mod Readings

@@ -1,5 +1,4 @@
 pub mod Answers
+pub mod Args
 pub mod Commands
-pub mod Numbers
 pub mod Told
-pub mod Words

@@ -1,7 +1,8 @@
-// Turns a line of a text sheet, as bytes, into the command that it asks for.
+// What the words of a sheet's line ask for.
 
 #![tactic(auto)]
 
+mod args;
 pub mod command;
-pub mod number;
-pub mod words;
+mod keyword;
+pub mod scope;

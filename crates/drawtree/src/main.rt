@@ -2,7 +2,8 @@
 
 #![tactic(auto)]
 
-use draw_sheet::whole::Sheet;
+use commands::scope::Scope;
+use sheet::whole::Sheet;
 use std::alloc::Global;
 use std::env;
 use std::io::{BufRead, BufReader};
@@ -10,7 +11,7 @@ use std::process::ExitCode;
 
 // Does the lines of standard input as they come, and says whether none was bad.
 fn do_sheet(rt: &HostRuntime, heap: Global) -> anyhow::Result<bool> {
-    let mut sheet = Sheet::new();
+    let mut sheet = Sheet::new(Scope::Draws);
     for line in BufReader::new(heap, rt.stdin())?.split(heap, b'\n') {
         rt.print(sheet.line(heap, line?.as_slice())?.as_str())?;
     }
@@ -20,7 +21,7 @@ fn do_sheet(rt: &HostRuntime, heap: Global) -> anyhow::Result<bool> {
 
 // Does a single command, and says whether it was done.
 fn do_command(rt: &HostRuntime, heap: Global, line: &[u8]) -> anyhow::Result<bool> {
-    let mut sheet = Sheet::new();
+    let mut sheet = Sheet::new(Scope::Draws);
     rt.print(sheet.line(heap, line)?.as_str())?;
     rt.print(sheet.end(heap)?.as_str())?;
     Ok(sheet.went_well(true))

@@ -23,7 +23,7 @@ use Rattle.plans.specs.declared.any.AnyPlan.{AnyPlan}
 use Rattle.plans.specs.declared.any.AnyPlan.TheVariants as any
 use Rattle.sources.specs.declared.any.AnyArrows.{AnyArrows}
 use Rattle.sources.specs.declared.any.AnyArrows.TheVariants as source
-use Rattle.draw_commands.specs.Commands as commands
+use Rattle.commands.specs.Commands as commands
 use Rattle.desk.specs.Drawings.{Drawing, drawing_of, Ordering, walk, listed, begun, tried, stepped, ran, heights_shown, open_shown, records_shown, tree_shown}
 use Rattle.session.specs.Said as said
 use Rattle.session.specs.Said.{Said}
@@ -150,7 +150,7 @@ goes_on commands.open_vertices x = false
 goes_on commands.records x = false
 goes_on commands.tree x = false
 goes_on (commands.reseat ports) x = false
-goes_on commands.help x = false
+goes_on (commands.help scope) x = false
 
 -- what is due before a command is done
 abbrev pub before : commands.Asked → Desk → Option Due × Desk
@@ -356,7 +356,7 @@ does d line commands.open_vertices = shows d (λ x. said.open_vertices (open_sho
 does d line commands.records = shows d (λ x. said.records (records_shown x))
 does d line commands.tree = shows_tree d
 does d line (commands.reseat ports) = reseats d ports
-does d line commands.help = (Ok said.commands, d)
+does d line (commands.help scope) = (Ok (said.commands scope), d)
 
 -- ---- want of memory
 
@@ -381,7 +381,7 @@ wants_memory commands.open_vertices = true
 wants_memory commands.records = true
 wants_memory commands.tree = true
 wants_memory (commands.reseat ports) = true
-wants_memory commands.help = false
+wants_memory (commands.help scope) = false
 
 -- the command found no memory: it is refused, and the desk is as it was
 pub record LacksMemory (d : Desk) (c : commands.Asked) (r : Result Said Misplaced) (after : Desk) : Type 0 where

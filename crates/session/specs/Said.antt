@@ -1,5 +1,6 @@
 -- What an answer says. Assumes nothing.
 use Rattle.std.specs.Prelude.{ℕ, List, Ok, Err, vec_items, Result}
+use Rattle.commands.specs.declared.scope.Scope.{Scope}
 use Rattle.model.specs.declared.draw.Pop.{Pop}
 use Rattle.model.specs.declared.draw.Stop.{Stop}
 use Rattle.model.specs.declared.draw.Tried.{Tried}
@@ -25,7 +26,7 @@ pub data Said : Type 0 where
   tree : List ℕ → Said
   cells : List ℕ → Said
   refused : DrawFault → Said
-  commands : Said
+  commands : (scope : Scope) → Said
 
 abbrev pub said : Answer → Said
 said answer.Silent = silent
@@ -42,7 +43,7 @@ said (answer.Records v) = records (vec_items v)
 said (answer.Tree v) = tree (vec_items v)
 said (answer.Cells v) = cells (vec_items v)
 said (answer.Refused e) = refused e
-said answer.Commands = commands
+said (answer.Commands scope) = commands scope
 
 -- the same of an answer or of what is out of place
 abbrev pub said_so : Result Answer Misplaced → Result Said Misplaced

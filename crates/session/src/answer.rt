@@ -1,4 +1,5 @@
 // What a command is answered with.
+use commands::scope::Scope;
 use model::draw::{Pop, Stop, Tried};
 use model::fault::DrawFault;
 use model::tree::TreeCheck;
@@ -24,8 +25,8 @@ pub enum Answer {
     // The filed cells after reseating.
     Cells(Vec<u16>),
     Refused(DrawFault),
-    // The list of commands.
-    Commands,
+    // The list of the commands that a sheet of this scope may hold.
+    Commands { scope: Scope },
 }
 
 // Why a command cannot be done where it stands.

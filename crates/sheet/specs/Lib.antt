@@ -1,4 +1,3 @@
-pub mod Desks
 pub mod Lines
 pub mod Sheets
 pub mod Texts

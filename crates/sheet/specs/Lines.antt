@@ -1,14 +1,17 @@
 -- What a line of a sheet does and writes. Assumes nothing.
 use Rattle.std.specs.Prelude.{◌≡◌, ℕ, ◌⊎◌, List, [], ◌∷◌, ◌++◌, Some, None, Ok, Err, string_bytes, Option, Result}
+use Rattle.tokens.specs.Words.{words_of}
 use Rattle.commands.specs.Commands.{Asked, command_of}
 use Rattle.commands.specs.Told.{told}
-use Rattle.commands.specs.Words.{words_of}
 use Rattle.commands.specs.declared.command.Mistake.{Mistake}
-use Rattle.sheet.specs.Desks.{Desk, before, Takes}
-use Rattle.sheet.specs.Texts.{answer_text, line_text, misplaced_word}
-use Rattle.sheet.specs.declared.answer.Answer.{Answer}
-use Rattle.sheet.specs.declared.answer.Answer.TheVariants as answer
-use Rattle.sheet.specs.declared.answer.Misplaced.{Misplaced}
+use Rattle.commands.specs.declared.scope.Scope.{Scope}
+use Rattle.session.specs.Desks.{Desk, before, Takes}
+use Rattle.session.specs.Said as says
+use Rattle.session.specs.Said.{Said}
+use Rattle.session.specs.declared.answer.Due.{Due}
+use Rattle.session.specs.declared.answer.Due.TheVariants.{Table, FewCells}
+use Rattle.session.specs.declared.answer.Misplaced.{Misplaced}
+use Rattle.sheet.specs.Texts.{answer_text, line_text, misplaced_word, due_text}
 use Rattle.sheet.specs.declared.line.Outcome.{Outcome}
 use Rattle.sheet.specs.declared.line.Outcome.TheVariants.{Fine, Refused, Bad}
 use Rattle.sheet.specs.declared.line.Reply.{Reply}
@@ -25,30 +28,50 @@ worse Refused Refused = Refused
 worse Refused Bad = Bad
 worse Bad o = Bad
 
--- how a line went, by its answer
-abbrev pub outcome_of : Result Answer Misplaced → Outcome
-outcome_of (Ok answer.Silent) = Fine
-outcome_of (Ok (answer.Complete n r)) = Fine
-outcome_of (Ok (answer.Table n r l)) = Fine
-outcome_of (Ok (answer.Checked t)) = Fine
-outcome_of (Ok (answer.Refused e)) = Refused
-outcome_of (Ok answer.Commands) = Fine
-outcome_of (Err m) = Bad
+-- what is due, if something is
+abbrev pub due_lines : Option Due → List ℕ
+due_lines None = []
+due_lines (Some due) = due_text due
 
--- the line that is due, if one is
-abbrev pub due_text : Option Answer → List ℕ
-due_text None = []
-due_text (Some a) = answer_text a
+-- how that went: filed arrows that lack cells are bad
+abbrev pub due_outcome : Option Due → Outcome
+due_outcome None = Fine
+due_outcome (Some (Table n r l)) = Fine
+due_outcome (Some (FewCells i)) = Bad
 
-abbrev pub answered_text : ℕ → Result Answer Misplaced → List ℕ
+-- what the command at line i is answered with
+abbrev pub answered_text : ℕ → Result Said Misplaced → List ℕ
 answered_text i (Ok a) = answer_text a
 answered_text i (Err m) = line_text i (misplaced_word m)
 
+-- how it went, by its answer
+abbrev pub answer_outcome : Result Said Misplaced → Outcome
+answer_outcome (Ok says.silent) = Fine
+answer_outcome (Ok (says.complete n r)) = Fine
+answer_outcome (Ok (says.checked t)) = Fine
+answer_outcome (Ok (says.filed d)) = Fine
+answer_outcome (Ok (says.seeded s d)) = Fine
+answer_outcome (Ok (says.begun n r)) = Fine
+answer_outcome (Ok (says.tried t)) = Fine
+answer_outcome (Ok (says.ran tries why)) = Fine
+answer_outcome (Ok (says.heights hs)) = Fine
+answer_outcome (Ok (says.open_vertices vs)) = Fine
+answer_outcome (Ok (says.records ps)) = Fine
+answer_outcome (Ok (says.tree ports)) = Fine
+answer_outcome (Ok (says.cells ports)) = Fine
+answer_outcome (Ok (says.refused e)) = Refused
+answer_outcome (Ok (says.commands scope)) = Fine
+answer_outcome (Err m) = Bad
+
+-- what line i writes, and how it went: first what is due, then the answer
+abbrev pub reply_of : ℕ → Option Due → Result Said Misplaced → List ℕ × Outcome
+reply_of i due result = (due_lines due ++ answered_text i result, worse (due_outcome due) (answer_outcome result))
+
 -- the command c at line i is done: first what is due, then what it does
 pub record Obeyed (d : Desk) (i : ℕ) (c : Asked) (reply : List ℕ × Outcome) (after : Desk) : Type 0 where
-  pub result : Result Answer Misplaced
-  pub takes : Takes (before c d).1 c result after
-  pub replies : reply ≡ (due_text (before c d).0 ++ answered_text i result, outcome_of result)
+  pub result : Result Said Misplaced
+  pub takes : Takes (before c d).1 i c result after
+  pub replies : reply ≡ reply_of i (before c d).0 result
 
 -- the command is done, whether its reply could be worded or not
 abbrev pub SomeObeyed : Desk → ℕ → Asked → Desk → Type 0
@@ -59,15 +82,15 @@ abbrev pub Answered : Desk → ℕ → Result Asked Mistake → List ℕ × Outc
 Answered d i (Ok c) reply after = Obeyed d i c reply after
 Answered d i (Err m) reply after = (reply ≡ (line_text i (told m), Bad)) × (after ≡ d)
 
--- a line without words is passed over
-abbrev pub ByWords : Desk → ℕ → List (List ℕ) → List ℕ × Outcome → Desk → Type 0
-ByWords d i [] reply after = (reply ≡ ([], Fine)) × (after ≡ d)
-ByWords d i (w ∷ ws) reply after = Answered d i (command_of (w ∷ ws)) reply after
+-- a line without words is passed over; the commands are those of the sheet's scope
+abbrev pub ByWords : Scope → Desk → ℕ → List (List ℕ) → List ℕ × Outcome → Desk → Type 0
+ByWords scope d i [] reply after = (reply ≡ ([], Fine)) × (after ≡ d)
+ByWords scope d i (w ∷ ws) reply after = Answered d i (command_of scope (w ∷ ws)) reply after
 
 -- what line i, of these bytes, does and writes
-abbrev pub Replied : Desk → ℕ → List ℕ → List ℕ × Outcome → Desk → Type 0
-Replied d i line reply after = ByWords d i (words_of line) reply after
+abbrev pub Replied : Scope → Desk → ℕ → List ℕ → List ℕ × Outcome → Desk → Type 0
+Replied scope d i line reply after = ByWords scope d i (words_of line) reply after
 
 -- there was no memory for the reply: the line was not done, or it was
-abbrev pub Untold : Desk → ℕ → List ℕ → Desk → Type 0
-Untold d i line after = (after ≡ d) ⊎ ((reply : List ℕ × Outcome) × Replied d i line reply after)
+abbrev pub Untold : Scope → Desk → ℕ → List ℕ → Desk → Type 0
+Untold scope d i line after = (after ≡ d) ⊎ ((reply : List ℕ × Outcome) × Replied scope d i line reply after)

@@ -2,8 +2,7 @@
 
 #![tactic(auto)]
 
-mod answer;
 mod line;
-mod session;
+mod lists;
 mod text;
 pub mod whole;

@@ -2,23 +2,26 @@
 ghost use Rattle.std.specs.Prelude.{◌≡◌, IfOk, string_bytes, MatchResult};
 ghost use Rattle.sheet.specs.Sheets.{fresh, sheet_of, Took, Lost, last_text, closed, went_well};
 
-use crate::line::{Outcome, Reply, do_line, last_words};
-use crate::session::Session;
+use crate::line::{Outcome, Reply, do_line, due_lines, due_outcome};
+use commands::scope::Scope;
+use session::session::Session;
 use std::alloc::{AllocError, Global};
 
-// What the desk has in hand, how many lines there were, and how the worst of them went.
+// Which commands it may hold, what the desk has in hand, how many lines there were, and how the worst of them went.
 #[derive(Drop)]
 pub struct Sheet {
+    scope: Scope,
     session: Session,
     lines: usize,
     worst: Outcome,
 }
 
 impl Sheet {
-    pub fn new() -> Sheet
-        ensures { sheet_of result ≡ fresh }
+    pub fn new(scope: Scope) -> Sheet
+        ensures { sheet_of result ≡ fresh scope }
     {
         Sheet {
+            scope,
             session: Session::new(),
             lines: 0,
             worst: Outcome::Fine,
@@ -31,17 +34,19 @@ impl Sheet {
     {
         let number = self.lines.saturating_add(1);
         self.lines = number;
-        let Reply { text, outcome } = do_line(&mut self.session, heap, number, line)?;
+        let Reply { text, outcome } = do_line(&mut self.session, heap, self.scope, number, line)?;
         self.worst = self.worst.worse(outcome);
         Ok(text)
     }
 
-    // Words what is still due when there are no more lines.
+    // Words what is still due when there are no more lines, and keeps how it went.
     pub fn end(&mut self, heap: Global) -> Result<String, AllocError>
         ensures text { IfOk result (λ s. string_bytes s ≡ last_text (sheet_of self.old)) }
         ensures after { sheet_of self.new ≡ closed (sheet_of self.old) }
     {
-        last_words(&mut self.session, heap)
+        let due = self.session.close();
+        self.worst = self.worst.worse(due_outcome(due));
+        due_lines(heap, due)
     }
 
     // Whether there was no bad line. A refusal is an answer like any other, unless `strict`, where it counts too.

@@ -1,7 +1,7 @@
 // Lines and what is made of them.
-use commands::number::number;
-use commands::words::words;
 use std::test::*;
+use tokens::number::number;
+use tokens::words::words;
 
 fn same(word: &[u8], text: &[u8]) -> bool {
     word == text

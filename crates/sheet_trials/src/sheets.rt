@@ -1,4 +1,5 @@
 // Bad lines, and what is due at a table's end.
+use commands::scope::Scope;
 use sheet::whole::Sheet;
 use std::alloc::Global;
 use std::process::Abort;
@@ -18,11 +19,12 @@ fn answers(
 // Does the lines in turn, each of which must be answered as it says, and ends the sheet.
 fn answers_all(
     rt: &(impl Abort + AllocGlobal),
+    scope: Scope,
     cases: &[(&str, &str)],
     last: &str,
 ) -> Result<Sheet, Fail> {
     let heap = rt.alloc();
-    let mut sheet = Sheet::new();
+    let mut sheet = Sheet::new(scope);
     for (line, text) in cases {
         answers(rt, &mut sheet, heap, line, text)?;
     }
@@ -46,8 +48,10 @@ fn bad_lines(rt: HostRuntime) -> Result<(), Fail> {
         ("complete 01 root 0", "plan complete 1 root 0\n"),
         ("check - 5 65535", "tree\n"),
     ];
-    let sheet = answers_all(&rt, &cases, "")?;
-    assert!(rt; !sheet.went_well(false));
+    for scope in [Scope::Halls, Scope::Draws] {
+        let sheet = answers_all(&rt, scope, &cases, "")?;
+        assert!(rt; !sheet.went_well(false));
+    }
     Ok(())
 }
 
@@ -62,7 +66,42 @@ fn tables_end(rt: HostRuntime) -> Result<(), Fail> {
         ("link 1 1", "line 6: a link follows its table\n"),
         ("table 1 root 0", ""),
     ];
-    let sheet = answers_all(&rt, &cases, "plan table 1 root 0 links 0\n")?;
+    for scope in [Scope::Halls, Scope::Draws] {
+        let sheet = answers_all(&rt, scope, &cases, "plan table 1 root 0 links 0\n")?;
+        assert!(rt; !sheet.went_well(false));
+    }
+    Ok(())
+}
+
+#[test]
+fn cells_are_counted(rt: HostRuntime) -> Result<(), Fail> {
+    let cases = [
+        ("filed 2 0", "line 1: there is no plan yet\n"),
+        ("complete 3 root 0", "plan complete 3 root 0\n"),
+        (
+            "cells 0",
+            "line 3: cells follow filed arrows that lack some\n",
+        ),
+        ("open", "line 4: there are no arrows yet\n"),
+        ("filed 2 1 0", ""),
+        ("cells 1 1 1", "line 6: there are too many cells\n"),
+        ("cells 1", ""),
+        (
+            "step",
+            "line 5: there are too few cells\nline 8: there is no draw yet\n",
+        ),
+        ("filed 2", ""),
+        ("cells 1 0 1 1", "arrows filed 2\n"),
+        ("seeded Ff dept 3", "line 11: the word `depth` is missing\n"),
+        ("seeded 0Ff depth 3", "arrows seeded ff depth 3\n"),
+        ("open", "opened 3 root 0\n"),
+        (
+            "reseat - 0 0",
+            "line 14: only filed arrows can be reseated\n",
+        ),
+        ("filed 2 0", ""),
+    ];
+    let sheet = answers_all(&rt, Scope::Draws, &cases, "line 15: there are too few cells\n")?;
     assert!(rt; !sheet.went_well(false));
     Ok(())
 }
@@ -70,7 +109,24 @@ fn tables_end(rt: HostRuntime) -> Result<(), Fail> {
 #[test]
 fn refusals_are_answers(rt: HostRuntime) -> Result<(), Fail> {
     let cases = [("complete 0 root 0", "refused 4 draw 0\n")];
-    let sheet = answers_all(&rt, &cases, "")?;
-    assert!(rt; sheet.went_well(false) && !sheet.went_well(true));
+    for scope in [Scope::Halls, Scope::Draws] {
+        let sheet = answers_all(&rt, scope, &cases, "")?;
+        assert!(rt; sheet.went_well(false) && !sheet.went_well(true));
+    }
+    Ok(())
+}
+
+// A sheet of halls alone knows no command on arrows or draws.
+#[test]
+fn halls_have_no_draws(rt: HostRuntime) -> Result<(), Fail> {
+    let cases = [
+        ("complete 1 root 0", "plan complete 1 root 0\n"),
+        ("filed 1", "line 2: no such command\n"),
+        ("open", "line 3: no such command\n"),
+        ("open?", "line 4: no such command\n"),
+        ("check -", "tree\n"),
+    ];
+    let sheet = answers_all(&rt, Scope::Halls, &cases, "")?;
+    assert!(rt; !sheet.went_well(false));
     Ok(())
 }

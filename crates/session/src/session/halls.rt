@@ -1,13 +1,13 @@
 // Plans and arrows.
 ghost use Rattle.std.specs.Prelude.{◌≡◌};
-ghost use Rattle.draw_commands.specs.Answers.{asked};
+ghost use Rattle.commands.specs.Answers.{asked};
 ghost use Rattle.session.specs.Desks.{desk_of, bare, closes, before, goes_on, place_of, new_plan, begins_complete, BeginsTable, adds_link, reported, checks, takes_seed, makes_room};
 ghost use Rattle.session.specs.Said.{said, said_so};
 
 use super::Session;
 use crate::answer::{Answer, Due, Misplaced};
 use crate::hall::Hall;
-use draw_commands::command::Command;
+use commands::command::Command;
 use model::fault::DrawFault;
 use model::plan::Plan;
 use model::tree::TreeCheck;

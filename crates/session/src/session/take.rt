@@ -1,12 +1,12 @@
 // Doing a command.
 ghost use Rattle.std.specs.Prelude.{◌≡◌};
-ghost use Rattle.draw_commands.specs.Answers.{asked};
+ghost use Rattle.commands.specs.Answers.{asked};
 ghost use Rattle.session.specs.Desks.{desk_of, Takes};
 ghost use Rattle.session.specs.Said.{said_so};
 
 use super::Session;
 use crate::answer::{Answer, Misplaced};
-use draw_commands::command::Command;
+use commands::command::Command;
 use orders::any::AnyOrder;
 use orders::filed::FiledOrder;
 use orders::walk::Walk;
@@ -39,7 +39,7 @@ impl Session {
             Command::Records => self.records(heap),
             Command::Tree => self.tree(heap),
             Command::Reseat { ports } => self.reseat(heap, ports.as_slice()),
-            Command::Help => Ok(Answer::Commands),
+            Command::Help { scope } => Ok(Answer::Commands { scope }),
         }
     }
 }

@@ -11,5 +11,8 @@ returns-in-Count c = ap told (sym c.in-Count.is)
 pub returns-in-Root : goal.returns-in-Root
 returns-in-Root c = ap told (sym c.in-Root.is)
 
+pub returns-in-Depth : goal.returns-in-Depth
+returns-in-Depth c = ap told (sym c.in-Depth.is)
+
 pub returns-in-Number : goal.returns-in-Number
 returns-in-Number c = ap told (sym c.in-Number.is)

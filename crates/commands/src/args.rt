@@ -1,0 +1,119 @@
+// Reads the words after a command's name.
+ghost use Rattle.std.specs.Prelude.{◌≡◌, IfOk, vec_items};
+ghost use Rattle.std.specs.Str.{bytes_eq};
+ghost use Rattle.commands.specs.Args.{meant, small_of, port_of, entry_of, list_of, pair_of, single_of, two_of, around_of};
+ghost use Rattle.tokens.specs.Words.{bytes};
+
+use crate::command::Mistake;
+use std::alloc::{AllocError, Global};
+use tokens::number::number;
+
+// Whether `-`, for the root's port, may stand in a list of numbers.
+#[derive(Clone, Copy)]
+pub(crate) enum Dash {
+    Allowed,
+    Refused,
+}
+
+// Whether the word is this text, byte for byte.
+pub(crate) fn is(word: &[u8], text: &[u8]) -> bool
+    ensures { result ≡ bytes_eq word.now text.now }
+{
+    word == text
+}
+
+// A vertex, a port, a size or a depth.
+pub(crate) fn small(word: &[u8]) -> Result<u16, Mistake>
+    ensures { result ≡ small_of word.now }
+{
+    match number(word, 65535) {
+        Some(n) => Ok(n as u16),
+        None => Err(Mistake::Number),
+    }
+}
+
+// A port, or `-` for the root's.
+fn port(word: &[u8]) -> Result<u16, Mistake>
+    ensures { result ≡ port_of word.now }
+{
+    if is(word, b"-") {
+        Ok(0xFFFF)
+    } else {
+        small(word)
+    }
+}
+
+// A number of a list.
+fn entry(word: &[u8], dash: Dash) -> Result<u16, Mistake>
+    ensures { result ≡ entry_of dash word.now }
+{
+    match dash {
+        Dash::Allowed => port(word),
+        Dash::Refused => small(word),
+    }
+}
+
+// The words as numbers, in order. Want of memory is no mistake of the line, so it is kept apart.
+pub(crate) fn list(
+    heap: Global,
+    args: &[&[u8]],
+    dash: Dash,
+) -> Result<Result<Vec<u16>, Mistake>, AllocError>
+    ensures { IfOk result (λ a. meant vec_items a ≡ list_of dash (bytes args.now)) }
+{
+    let mut numbers = Vec::new(heap);
+    for word in args {
+        match entry(word, dash) {
+            Ok(n) => numbers.push(n)?,
+            Err(mistake) => return Ok(Err(mistake)),
+        }
+    }
+    Ok(Ok(numbers))
+}
+
+// Two numbers, the left one first.
+pub(crate) fn pair(left: &[u8], right: &[u8]) -> Result<(u16, u16), Mistake>
+    ensures { result ≡ pair_of left.now right.now }
+{
+    let first = small(left)?;
+    let second = small(right)?;
+    Ok((first, second))
+}
+
+// The only word.
+pub(crate) fn single<'a>(args: &[&'a [u8]]) -> Result<&'a [u8], Mistake>
+    ensures { meant (λ w. w.now) result ≡ single_of (bytes args.now) }
+{
+    let [word] = args else {
+        return Err(Mistake::Count);
+    };
+    Ok(word)
+}
+
+// The two words.
+pub(crate) fn two<'a>(args: &[&'a [u8]]) -> Result<(&'a [u8], &'a [u8]), Mistake>
+    ensures { meant (λ w. (w.0.now, w.1.now)) result ≡ two_of (bytes args.now) }
+{
+    let [left, right] = args else {
+        return Err(Mistake::Count);
+    };
+    Ok((left, right))
+}
+
+// The two words around `text`; another word in its place is the mistake `missing`.
+pub(crate) fn around<'a>(
+    args: &[&'a [u8]],
+    text: &[u8],
+    missing: Mistake,
+) -> Result<(&'a [u8], &'a [u8]), Mistake>
+    ensures { meant (λ w. (w.0.now, w.1.now)) result ≡ around_of text.now missing (bytes args.now) }
+{
+    let [left, word, right] = args else {
+        return Err(Mistake::Count);
+    };
+    if is(word, text) {
+        Ok((left, right))
+    } else {
+        Err(missing)
+    }
+}

@@ -1,4 +1,0 @@
-pub mod Answers
-pub mod Args
-pub mod Commands
-pub mod Told

@@ -1,7 +1,0 @@
-// What the words of a sheet's line ask for.
-
-#![tactic(auto)]
-
-mod args;
-pub mod command;
-mod keyword;

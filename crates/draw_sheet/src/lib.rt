@@ -1,8 +1,0 @@
-// Does the commands of a sheet, one after the other, and words the answers.
-
-#![tactic(auto)]
-
-mod line;
-mod lists;
-mod text;
-pub mod whole;
