@@ -101,7 +101,12 @@ fn cells_are_counted(rt: HostRuntime) -> Result<(), Fail> {
         ),
         ("filed 2 0", ""),
     ];
-    let sheet = answers_all(&rt, Scope::Draws, &cases, "line 15: there are too few cells\n")?;
+    let sheet = answers_all(
+        &rt,
+        Scope::Draws,
+        &cases,
+        "line 15: there are too few cells\n",
+    )?;
     assert!(rt; !sheet.went_well(false));
     Ok(())
 }
