@@ -47,7 +47,7 @@ module _ (p : Layout) (a : Cells) (sound : Sound p) (l : List Pop) (calls : List
   -- the answer for the tree, by what it depends on
   abbrev answer : Bool → Bool → Heights → List ℕ → Result (Unit {0}) DrawFault × List ℕ
   answer of_plan over h ports =
-      written (option_or (first_fault ((not of_plan, fault.OtherPlan) ∷ (ltb (length ports) p.size, fault.Short) ∷ (not over, fault.StillOpen) ∷ [])) (dry_fault (lowest_dry p a h)))
+      written (option_or (first_fault ((not of_plan, fault.OtherPlan) ∷ (ltb (length ports) p.size, fault.Short) ∷ [])) (option_or (first_fault ((not over, fault.StillOpen) ∷ [])) (dry_fault (lowest_dry p a h))))
       ports (ports_at p a h ++ drop p.size ports)
 
   at_end : Over w → AtEnd p a w cs

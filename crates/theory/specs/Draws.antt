@@ -54,7 +54,7 @@ fresh_entry p v = record { height = 0; settled = is_root p v }
 
 -- a fresh draw: every height and the pops are 0, the root is settled and all others are open
 abbrev pub opened : Layout → State
-opened p = record { entries = map (λ v. record { height = 0; settled = is_root p v }) (range_with_len 0 p.size); root = p.root; pops = 0 }
+opened p = record { entries = map (fresh_entry p) (range_with_len 0 p.size); root = p.root; pops = 0 }
 
 -- the draw's size and root are the plan's
 abbrev pub is_of : Layout → State → Bool

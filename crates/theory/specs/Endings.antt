@@ -17,7 +17,7 @@ port_shown p a h v = unwrap_or (visible p a v (h v)) 65535
 
 -- the visible port of each vertex at the heights, 65,535 where there is none, as at the root
 abbrev pub ports_at : Layout → Cells → Heights → List ℕ
-ports_at p a h = map (λ v. unwrap_or (visible p a v (h v)) 65535) (range_with_len 0 p.size)
+ports_at p a h = map (port_shown p a h) (range_with_len 0 p.size)
 
 -- the lowest dry vertex at the heights
 abbrev pub lowest_dry : Layout → Cells → Heights → Option ℕ
@@ -43,9 +43,4 @@ tree_fault p a d ports = option_or (first_fault ((not (is_of p d), fault.OtherPl
 
 -- tree, with a buffer for the ports
 abbrev pub trees : Layout → Cells → State → List ℕ → Result (Unit {0}) DrawFault × List ℕ
-trees p a d ports =
-    written
-    (option_or (first_fault ((not (is_of p d), fault.OtherPlan) ∷ (nat_lt (length ports) p.size, fault.Short) ∷ (not (none_open d.entries), fault.StillOpen) ∷ []))
-    (dry_fault (lowest_dry p a (height_of d.entries))))
-    ports
-    (ports_at p a (height_of d.entries) ++ drop p.size ports)
+trees p a d ports = written (tree_fault p a d ports) ports (ports_at p a (height_of d.entries) ++ drop p.size ports)

@@ -1,6 +1,7 @@
 -- Fillings: lists of ports that give every vertex but the root a port of its own at each index below a depth. Assumes nothing.
-use Rattle.std.specs.Prelude.{◌≡◌, ℕ, ◌+◌, ◌-◌, ◌*◌, ◌/◌, ◌<◌, not, List, [], ◌∷◌, map, length, replicate, filter, slice_index}
+use Rattle.std.specs.Prelude.{◌≡◌, ℕ, ◌+◌, ◌*◌, ◌/◌, ◌<◌, not, List, [], ◌∷◌, map, length, replicate, filter, slice_index}
 use Rattle.std.specs.List.{range_with_len, AllZip, flat_map}
+use Rattle.model.specs.Depths.{cells_to}
 use Rattle.model.specs.Filed.{rank}
 use Rattle.model.specs.Layouts.{Layout, is_root}
 
@@ -10,7 +11,7 @@ drained p = filter (λ v. not (is_root p v)) (range_with_len 0 p.size)
 
 -- the number of cells down to a depth
 abbrev pub cell_count : Layout → ℕ → ℕ
-cell_count p depth = (p.size - 1) * depth
+cell_count p depth = cells_to p.size depth
 
 -- where the cell of v and index k stands among them
 abbrev pub cell_place : Layout → ℕ → ℕ → ℕ → ℕ
