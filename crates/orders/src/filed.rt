@@ -28,11 +28,7 @@ impl FiledOrder {
     fn at_place(&self, entries: &Entries) -> Option<u16>
         ensures { result ≡ filed_at self.now.vertices.items self.now.place (open_marks entries.now.list.items) }
     {
-        if self.place < self.vertices.len() {
-            if_open(entries, self.vertices[self.place])
-        } else {
-            None
-        }
+        if_open(entries, *self.vertices.get(self.place)?)
     }
 }
 
@@ -40,7 +36,7 @@ impl FiledOrder {
 fn if_open(entries: &Entries, v: u16) -> Option<u16>
     ensures { result ≡ if_open (open_marks entries.now.list.items) v }
 {
-    if is_open(entries, v) { Some(v) } else { None }
+    is_open(entries, v).then_some(v)
 }
 
 // The next place of a list of `count` vertices.
