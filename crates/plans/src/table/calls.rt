@@ -1,14 +1,15 @@
 // What a table answers, and how it takes a link.
-ghost use Rattle.std.specs.Prelude.{◌≡◌, ◌<◌, length, vec_len, OnErr, slice_index_or};
+ghost use Rattle.std.specs.Prelude.{◌≡◌, ◌<◌, length, map, OnErr};
+ghost use Rattle.model.specs.Answers.{answered};
 ghost use Rattle.plans.specs.Answers.{made_as, MadeOrNoMemory};
-ghost use Rattle.plans.specs.Cablings.{cabled, leads_from, last_start, may_follow, link_fault, linked, no_link, unlinked};
+ghost use Rattle.plans.specs.Cablings.{cabled, end_of, leads_from, last_start, may_follow, link_fault, linked, unlinked};
 ghost use Rattle.plans.specs.Limits.{plan_fault};
 ghost use Rattle.plans.specs.Soundness.{table_sound};
 ghost use Rattle.plans.specs.Spans.{span_at, grown};
 ghost use Rattle.plans.specs.Tables.{cabling_of};
 
 use super::{Link, Span, Table};
-use crate::limits::plan_fault;
+use crate::limits::check_limits;
 use model::fault::DrawFault;
 use model::plan::Plan;
 use std::alloc::Global;
@@ -45,16 +46,10 @@ impl Table {
     pub fn new(heap: Global, size: u16, root: u16) -> Result<Table, DrawFault>
         ensures { MadeOrNoMemory (plan_fault size root) (unlinked size root) (made_as cabling_of result) }
     {
-        if let Some(fault) = plan_fault(size, root) {
-            return Err(fault);
-        }
-        let Ok(links) = Vec::with_capacity(heap, MAX_LINKS) else {
-            return Err(DrawFault::NoMemory);
-        };
+        check_limits(size, root)?;
+        let links = Vec::with_capacity(heap, MAX_LINKS)?;
         let mut spans = Vec::new(heap);
-        if spans.resize(size as usize, NO_SPAN).is_err() {
-            return Err(DrawFault::NoMemory);
-        }
+        spans.resize(size as usize, NO_SPAN)?;
         Ok(Table {
             size,
             root,
@@ -73,30 +68,22 @@ impl Table {
     fn last_start(&self) -> u16
         ensures { result ≡ last_start self.now.links.items }
     {
-        let count = self.links.len();
-        if count == 0 {
-            0
-        } else {
-            self.links[count - 1].from
-        }
-    }
-
-    fn end_of(&self, at: usize) -> u16
-        requires { at < vec_len self.now.links }
-        ensures { result ≡ (slice_index_or self.now.links.items at no_link).to }
-    {
-        self.links[at].to
+        self.links.last().map_or(0, |link| link.from)
     }
 
     // The span of `v`, an empty one for a vertex that the table lacks.
     fn span(&self, v: u16) -> Span
         ensures { result ≡ span_at self.now.spans.items v }
     {
-        if v < self.size {
-            self.spans[v as usize]
-        } else {
-            NO_SPAN
-        }
+        self.spans.get(v as usize).copied().unwrap_or(NO_SPAN)
+    }
+
+    fn links_from(&self, v: u16) -> &[Link]
+        ensures { map end_of result.now ≡ leads_from self.now.links.items v }
+    {
+        let span = self.span(v);
+        let first = span.first as usize;
+        &self.links[first..first + span.degree as usize]
     }
 
     fn ports_at(&self, v: u16) -> u16
@@ -105,23 +92,24 @@ impl Table {
         self.span(v).degree
     }
 
-    // `&` and not `&&`: each part may be asked whatever the others say.
     fn may_follow(&self, from: u16, to: u16) -> bool
         ensures { result ≡ may_follow (cabling_of self.now) from to }
     {
-        (from < self.size)
-            & ((to < self.size) & ((self.last_start() <= from) & (self.ports_at(from) < 1023)))
+        from < self.size
+            && to < self.size
+            && self.last_start() <= from
+            && self.ports_at(from) < 1023
     }
 
-    fn link_fault(&self, from: u16, to: u16) -> Option<DrawFault>
-        ensures { result ≡ link_fault (cabling_of self.now) from to }
+    fn check_link(&self, from: u16, to: u16) -> Result<(), DrawFault>
+        ensures { result ≡ answered (link_fault (cabling_of self.now) from to) tt }
     {
         if self.links.len() >= MAX_LINKS {
-            Some(DrawFault::Limit)
+            Err(DrawFault::Limit)
         } else if self.may_follow(from, to) {
-            None
+            Ok(())
         } else {
-            Some(DrawFault::Link)
+            Err(DrawFault::Link)
         }
     }
 
@@ -130,9 +118,7 @@ impl Table {
         ensures answer { (result, cabling_of self.new) ≡ linked (cabling_of self.old) from to }
         ensures same { OnErr result (self.new ≡ self.old) }
     {
-        if let Some(fault) = self.link_fault(from, to) {
-            return Err(fault);
-        }
+        self.check_link(from, to)?;
         let end = self.links.len() as u16;
         let span = self.span(from).grown(end);
         self.spans[from as usize] = span;
@@ -159,11 +145,7 @@ impl Plan for Table {
     }
 
     fn target(&self, v: u16, port: u16) -> Option<u16> {
-        let span = self.span(v);
-        if port < span.degree {
-            Some(self.end_of(span.first as usize + port as usize))
-        } else {
-            None
-        }
+        let link = self.links_from(v).get(port as usize)?;
+        Some(link.to)
     }
 }
