@@ -7,7 +7,7 @@ ghost use Rattle.theory.specs.OneEnd.{OneEndByCalls};
 ghost use Rattle.draws.specs.States.{state_of};
 
 use super::Draw;
-use crate::arrows;
+use crate::sight::Sight;
 use model::draw::{Entries, Entry};
 use model::fault::DrawFault;
 use model::plan::Plan;
@@ -76,6 +76,11 @@ impl Draw {
     pub fn visible_port<P: Plan, S: ArrowSource>(&self, plan: &P, arrows: &S, v: u16) -> Option<u16>
         ensures { result ≡ visible (P.layout plan.now) (S.cells arrows.now) v (height_of (state_of self.now).entries v) }
     {
-        arrows::visible_port(&self.entries, plan, arrows, v)
+        let sight = Sight {
+            entries: &self.entries,
+            plan,
+            arrows,
+        };
+        sight.visible_port(v)
     }
 }

@@ -1,5 +1,5 @@
-use Rattle.std.proofs.Common.{◌≡◌, ℕ, ◌≤◌, true, List, [], ◌∷◌, vec_items, sym, ap, ◌∙◌, subst}
-use Rattle.std.proofs.lemmas.Bool.{and_parts, eqb-true}
+use Rattle.std.proofs.Common.{◌≡◌, ℕ, ◌≤◌, true, List, [], ◌∷◌, vec_items, sym, refl, ap, ◌∙◌, subst}
+use Rattle.std.proofs.lemmas.Bool.{and_parts, eqb-true, lt-ltb}
 use Rattle.model.specs.declared.draw.Entry.{Entry}
 use Rattle.theory.specs.Cycles.{among, Cycle}
 use Rattle.theory.specs.Draws.{height_of, shown, changed, higher}
@@ -31,5 +31,5 @@ returns g c (m ∷ rest) cyc on =
     let low : vertex ≡ m = c.lowest_around-vertex.ensures m rest cyc on in
     let cyc2 : Cycle (shown p a es) (vertex ∷ rest) = subst (λ (x : ℕ). Cycle (shown p a es) (x ∷ rest)) (sym low) cyc in
     let (raised, long) = c.raise_cycle-length.ensures rest cyc2 in
-    pops_as (held_of c.args.self.now c.args.list.now) m rest _ _ _ (sym c.if-not-has_room.ensures) (raised ∙ ap (λ (x : ℕ). changed higher (x ∷ rest) es) low) c.put.ensures
-    (c.noted-pop.ensures ∙ record_is (height_of es) m rest vertex c.height-height.result c.raise_cycle-length.result low c.height-height.ensures long)
+    pops_as (held_of c.args.self.now c.args.list.now) m rest _ _ _ (lt-ltb _ _ c.if-self-list.false) (raised ∙ ap (λ (x : ℕ). changed higher (x ∷ rest) es) low) refl
+    (record_is (height_of es) m rest vertex c.height-height.result c.raise_cycle-length.result low c.height-height.ensures long)
