@@ -2,7 +2,7 @@
 ghost use Rattle.std.specs.Prelude.{◌≡◌, MatchResult};
 ghost use Rattle.model.specs.Arrows.{visible};
 ghost use Rattle.model.specs.declared.fault.DrawFault.TheVariants.{NoMemory};
-ghost use Rattle.theory.specs.Draws.{fresh_entry, height_of, opened, is_of};
+ghost use Rattle.theory.specs.Draws.{height_of, opened, is_of};
 ghost use Rattle.theory.specs.OneEnd.{OneEndByCalls};
 ghost use Rattle.draws.specs.States.{state_of};
 
@@ -14,27 +14,18 @@ use model::plan::Plan;
 use model::source::ArrowSource;
 use std::alloc::Global;
 
-// The entry of a vertex that nothing was done with: only the root is settled.
-fn fresh_entry<P: Plan>(plan: &P, v: u16) -> Entry
-    ensures { result ≡ fresh_entry (P.layout plan.now) v }
-{
-    Entry {
-        height: 0,
-        settled: v == plan.root(),
-    }
-}
-
 // An entry for each vertex: all at height 0, and open but for the root.
-fn fresh_entries<P: Plan>(plan: &P, heap: Global) -> Result<Entries, DrawFault>
-    ensures { MatchResult result (λ e. e.list.items ≡ (opened (P.layout plan.now)).entries) (λ e. e ≡ NoMemory) }
+fn fresh_entries<P: Plan>(plan: &P, heap: Global) -> Result<Vec<Entry>, DrawFault>
+    ensures { MatchResult result (λ l. l.items ≡ (opened (P.layout plan.now)).entries) (λ e. e ≡ NoMemory) }
 {
-    let mut list = Vec::new(heap);
-    for v in 0..plan.size() {
-        let Ok(()) = list.push(fresh_entry(plan, v)) else {
-            return Err(DrawFault::NoMemory);
-        };
-    }
-    Ok(Entries { list })
+    let root = plan.root();
+    let list = (0..plan.size())
+        .map(|v| Entry {
+            height: 0,
+            settled: v == root,
+        })
+        .collect(heap)?;
+    Ok(list)
 }
 
 impl Draw {
@@ -44,9 +35,9 @@ impl Draw {
         ensures fresh { MatchResult result (λ d. state_of d ≡ opened (P.layout plan.now)) (λ e. e ≡ NoMemory) }
         ensures theorem { OneEndByCalls }
     {
-        let entries = fresh_entries(plan, heap)?;
+        let list = fresh_entries(plan, heap)?;
         Ok(Draw {
-            entries,
+            entries: Entries { list },
             root: plan.root(),
             pops: 0,
         })
