@@ -60,7 +60,7 @@ impl Draw {
     pub fn is_of<P: Plan>(&self, plan: &P) -> bool
         ensures { result ≡ is_of (P.layout plan.now) (state_of self.now) }
     {
-        (self.entries.list.len() == plan.size() as usize) & (self.root == plan.root())
+        self.entries.list.len() == plan.size() as usize && self.root == plan.root()
     }
 
     // The port that the vertex shows at its height, none at the root and at a dry vertex.
