@@ -1,5 +1,5 @@
 -- What commands do where what they need is there. Assumes nothing.
-use Rattle.std.proofs.Common.{◌≡◌, ℕ, ◌+◌, ◌≤◌, Bool, true, false, cond, ltb, ◌⊎◌, List, length, Some, None, Ok, Err, vec_items, Result, sym, refl, ap, ◌∙◌, subst, inl, inr, arith, length-append, MatchResult}
+use Rattle.std.proofs.Common.{◌≡◌, ℕ, ◌+◌, ◌≤◌, Bool, true, false, cond, ltb, ◌⊎◌, List, length, Some, None, Ok, Err, vec_items, Vec, Global, Result, sym, refl, ap, ◌∙◌, subst, inl, inr, arith, length-append, MatchResult}
 use Rattle.std.proofs.lemmas.Bool.{le-ltb}
 use Rattle.std.specs.Option.{option_map}
 use Rattle.model.specs.Depths.{cells_to, cells_fault}
@@ -102,25 +102,25 @@ module _ (s : Session) where
 
   -- ---- reseating
 
-  module _ (q : AnyPlan) (f : Filed) (x : Running) (is_q : s.hall ≡ hall.Ready q) (is_f : s.arrows ≡ Some (source.Filed f)) (is_x : s.running ≡ Some x) (ports : List ℕ) where
+  module _ (q : AnyPlan) (f : Filed (Vec ℕ Global)) (x : Running) (is_q : s.hall ≡ hall.Ready q) (is_f : s.arrows ≡ Some (source.Filed f)) (is_x : s.running ≡ Some x) (ports : List ℕ) where
     abbrev given : Result (Unit {0}) DrawFault × List ℕ
-    given = reseats_to (any_layout q) (drawing_of x).held.draw f.depth (vec_items f.ports) ports
+    given = reseats_to (any_layout q) (drawing_of x).held.draw f.listing.depth (vec_items f.ports) ports
 
-    as_given : reseated_desk (desk_of s) (planned_of q) f.size f.root f.depth given ≡ reseats (desk_of s) ports
+    as_given : reseated_desk (desk_of s) (planned_of q) f.listing.size f.listing.root f.listing.depth given ≡ reseats (desk_of s) ports
     as_given =
-        ap (λ (l : Layout). reseated_desk (desk_of s) (planned_of q) f.size f.root f.depth (reseats_to l (drawing_of x).held.draw f.depth (vec_items f.ports) ports)) (same_layout q)
+        ap (λ (l : Layout). reseated_desk (desk_of s) (planned_of q) f.listing.size f.listing.root f.listing.depth (reseats_to l (drawing_of x).held.draw f.listing.depth (vec_items f.ports) ports)) (same_layout q)
         ∙ sym (drawn q (source.Filed f) x is_q is_f is_x (λ p a y. reseats_arrows (desk_of s) p a y ports))
 
     pub renews : (r : Result Renewal DrawFault) → MatchResult r (Renewed (any_layout q) f (drawing_of x) s.room ports) (λ e. (given.0 ≡ Err e) ⊎ (e ≡ NoMemory)) → Renews (desk_of s) ports (Ok r)
     renews (Ok new) ren =
         (λ i. (Ok (said.cells (ren.shown i)), new_drawing (new_arrows (desk_of s) (filed (ren.same_size i) (ren.same_root i) (ren.same_depth i) (vec_items new.filed.ports))) (fresh i)))
-        ∙ ap (reseated_desk (desk_of s) (planned_of q) f.size f.root f.depth) (sym ren.cells) ∙ as_given
+        ∙ ap (reseated_desk (desk_of s) (planned_of q) f.listing.size f.listing.root f.listing.depth) (sym ren.cells) ∙ as_given
       where
         fresh : drawing_of new.running ≡ begun (layout_of (planned_of q)) s.room
         fresh = ren.fresh ∙ ap (λ (l : Layout). begun l s.room) (same_layout q)
     renews (Err e) (inl is) = inl (by given is ∙ as_given)
       where
-        by : (x2 : Result (Unit {0}) DrawFault × List ℕ) → x2.0 ≡ Err e → (Ok (said.refused e), desk_of s) ≡ reseated_desk (desk_of s) (planned_of q) f.size f.root f.depth x2
+        by : (x2 : Result (Unit {0}) DrawFault × List ℕ) → x2.0 ≡ Err e → (Ok (said.refused e), desk_of s) ≡ reseated_desk (desk_of s) (planned_of q) f.listing.size f.listing.root f.listing.depth x2
         by (Ok u, cells) never = absurd (let z : ◌≡◌ {A = ℕ} 0 1 = cc in omega arith)
         by (Err e2, cells) same = let h : e ≡ e2 = cc in ap (λ (y : DrawFault). (Ok (said.refused y), desk_of s)) h
     renews (Err e) (inr none) = inr none

@@ -9,8 +9,9 @@ use crate::hall::{Hall, Pending};
 use model::fault::DrawFault;
 use model::plan::Plan;
 use sources::any::AnyArrows;
-use sources::depth::{cell_count, cells_fault};
+use sources::depth::check_cells;
 use sources::filed::Filed;
+use sources::listing::Listing;
 use std::mem;
 
 impl Pending {
@@ -49,12 +50,11 @@ impl Session {
     {
         match mem::replace(&mut self.hall, Hall::Empty) {
             Hall::Filing(plan, pending) => {
-                if pending.ports.len() == cell_count(plan.size(), pending.depth) {
-                    let depth = pending.depth;
+                let depth = pending.depth;
+                let listing = Listing::of(&plan, depth);
+                if pending.ports.len() == listing.count() {
                     let filed = Filed {
-                        size: plan.size(),
-                        root: plan.root(),
-                        depth,
+                        listing,
                         ports: pending.ports,
                     };
                     self.arrows = Some(AnyArrows::Filed(filed));
@@ -84,10 +84,10 @@ impl Session {
         let Hall::Ready(plan) = &self.hall else {
             return Err(Misplaced::NoPlan);
         };
-        if let Some(fault) = cells_fault(plan.size(), depth) {
+        if let Err(fault) = check_cells(plan.size(), depth) {
             return Ok(Answer::Refused(fault));
         }
-        if cell_count(plan.size(), depth) < ports.len() {
+        if Listing::of(plan, depth).count() < ports.len() {
             return Err(Misplaced::TooMany);
         }
         self.start(Pending { line, depth, ports });
@@ -100,7 +100,7 @@ impl Session {
         let Hall::Filing(plan, pending) = &mut self.hall else {
             return Err(Misplaced::NoFiled);
         };
-        if pending.exceeds(cell_count(plan.size(), pending.depth), ports.len()) {
+        if pending.exceeds(Listing::of(plan, pending.depth).count(), ports.len()) {
             return Err(Misplaced::TooMany);
         }
         if !pending.extend(ports) {

@@ -16,7 +16,7 @@ use plans::complete::Complete;
 use plans::table::Table;
 use sources::any::AnyArrows;
 use sources::cap::Cap;
-use sources::depth::depth_fault;
+use sources::depth::check_depth;
 use sources::seeded::Seeded;
 use std::alloc::Global;
 use std::mem;
@@ -153,7 +153,7 @@ impl Session {
         let Hall::Ready(_) = &self.hall else {
             return Err(Misplaced::NoPlan);
         };
-        if let Some(fault) = depth_fault(depth) {
+        if let Err(fault) = check_depth(depth) {
             return Ok(Answer::Refused(fault));
         }
         let below = Seeded { seed };

@@ -21,13 +21,13 @@ holds_back v lent back is long = with_items_is v back (long ∙ ap length is ∙
 pub returns-in-Err : goal.returns-in-Err
 returns-in-Err c =
     let lent = c.as_mut_slice.ensures.value ∙ c.in_ok-cells.ensures ∙ c.as_slice.ensures.value in
-    let whole = came_of (any_layout c.args.plan.now) (drawing_of c.args.running.now).held.draw c.args.filed.now.depth (vec_items c.args.filed.now.ports) _ c.args.ports.now _ _ lent c.in-Err.ensures in
+    let whole = came_of (any_layout c.args.plan.now) (drawing_of c.args.running.now).held.draw c.args.filed.now.listing.depth (vec_items c.args.filed.now.ports) _ c.args.ports.now _ _ lent c.in-Err.ensures in
     inl (ap (λ (x : Result (Unit {0}) DrawFault × List ℕ). x.0) whole)
 
 pub returns : goal.returns
 returns c =
     let lent = c.as_mut_slice.ensures.value ∙ c.in_ok-cells.ensures ∙ c.as_slice.ensures.value in
-    let whole = came_of (any_layout c.args.plan.now) (drawing_of c.args.running.now).held.draw c.args.filed.now.depth (vec_items c.args.filed.now.ports) _ c.args.ports.now _ _ lent c.in_default.ensures in
+    let whole = came_of (any_layout c.args.plan.now) (drawing_of c.args.running.now).held.draw c.args.filed.now.listing.depth (vec_items c.args.filed.now.ports) _ c.args.ports.now _ _ lent c.in_default.ensures in
     let back = holds_back c.in_ok-cells.cells _ c.reseat.new.cells c.as_mut_slice.ensures.value c.reseat.auto.cells in
     record {
       cells = whole ∙ ap (λ (l : List ℕ). (Ok tt, l)) (sym back);
