@@ -1,11 +1,12 @@
 -- Reseating vertex by vertex, and why every vertex has its seat. Assumes nothing.
-use Rattle.std.proofs.Common.{◌≡◌, ℕ, suc, ◌+◌, ◌-◌, ◌<◌, ◌≤◌, Bool, true, false, cond, not, ◌&&◌, ◌||◌, ltb, leb, List, [], ◌∷◌, ◌++◌, length, get_or, take, drop, set, is_some, Some, None, Ok, filter, Option, Result, sym, refl, ap, ◌∙◌, subst, inl, inr, arith, length-set, MatchOption}
+use Rattle.std.proofs.Common.{◌≡◌, ℕ, suc, ◌+◌, ◌-◌, ◌<◌, ◌≤◌, Bool, true, false, cond, not, ◌&&◌, ◌||◌, ltb, leb, List, [], ◌∷◌, ◌++◌, length, get_or, take, drop, set, is_some, Some, None, Ok, Err, filter, Option, Result, sym, refl, ap, ◌∙◌, subst, inl, inr, arith, length-set, MatchOption}
 use Rattle.std.proofs.lemmas.List.{length-take-le, set-append_left, take-append-drop}
 use Rattle.std.proofs.lemmas.Bool.{eqb-true, eqb-false, ltb-false, leb-false, not-false, not_from_false, and_parts, and_from, or_parts, both_ways}
 use Rattle.std.specs.List.{range_with_len}
 use Rattle.std.specs.Option.{option_or}
 use Rattle.model.proofs.Lowest.{NoneBelow, IsLowest, lowest_tells}
 use Rattle.model.proofs.Ways.{none_some, same_some}
+use Rattle.model.specs.Answers.{answered}
 use Rattle.model.specs.Arrows.{Cells, visible, is_dry}
 use Rattle.model.specs.Depths.{cells_fault}
 use Rattle.model.specs.Distinct.{In}
@@ -13,6 +14,7 @@ use Rattle.model.specs.Filed.{lacks_cell, place}
 use Rattle.model.specs.Layouts.{Layout, Sound, is_root}
 use Rattle.model.specs.declared.fault.DrawFault.{DrawFault}
 use Rattle.model.specs.declared.fault.DrawFault.TheVariants.{Short, OtherPlan, Dry}
+use Rattle.sources.specs.declared.listing.Listing.{Listing}
 use Rattle.theory.proofs.Fillings.{place_below}
 use Rattle.theory.proofs.Reseating.{in_drained, shown_shallow}
 use Rattle.theory.specs.Calls.{first_fault}
@@ -26,8 +28,8 @@ use Rattle.endings.specs.Seats.{seat, HasSeats}
 -- ---- one vertex
 
 -- what has a place is a cell of a vertex other than the root above the depth, so the place is among those of the cells
-pub placed_below : (p : Layout) → Sound p → (n r depth v k at : ℕ) → n ≡ p.size → r ≡ p.root → Some at ≡ place n r depth v k → at < cell_count p depth
-placed_below p sound n r depth v k at same_size same_root is = by (lacks_cell p.size p.root depth v k) refl (sym (is ∙ ap (λ m. place m r depth v k) same_size ∙ ap (λ w. place p.size w depth v k) same_root))
+pub placed_below : (p : Layout) → Sound p → (l : Listing) (depth v k at : ℕ) → l ≡ record { size = p.size; root = p.root; depth = depth } → Some at ≡ place l.size l.root l.depth v k → at < cell_count p depth
+placed_below p sound l depth v k at listed is = by (lacks_cell p.size p.root depth v k) refl (sym (is ∙ ap (λ (x : Listing). place x.size x.root x.depth v k) listed))
   where
     by : (b : Bool) → lacks_cell p.size p.root depth v k ≡ b → cond b None (Some (cell_place p depth v k)) ≡ Some at → at < cell_count p depth
     by true lacks none = absurd (none_some None at refl none)
@@ -132,6 +134,12 @@ in_front p sound d depth cells ports has =
     let (low, other) = in_drained p v there in
     let below : cell_place p depth v (h v) < cell_count p depth = place_below p sound depth v (h v) (eqb-false v p.root other) low (has.shallow v low other) in
     omega (arith, length-take-le (cell_count p depth) cells has.room))
+
+-- what is refused changes nothing
+pub refused : (fault : Option DrawFault) (e : DrawFault) (r : Result (Unit {0}) DrawFault) (ports new : List ℕ) → r ≡ Err e → ◌≡◌ {A = Result (Unit {0}) DrawFault} (Err e) (answered fault tt)
+    → ◌≡◌ {A = Result (Unit {0}) DrawFault × List ℕ} (r, ports) (written fault ports new)
+refused None e r ports new is found = absurd (cc)
+refused (Some x) e r ports new is found = ap (λ (y : Result (Unit {0}) DrawFault). (y, ports)) (is ∙ found)
 
 -- where nothing is refused, the call is the seating of all
 pub reseats_all : (p : Layout) → Sound p → (d : State) (depth : ℕ) (cells ports new : List ℕ) → reseat_fault p d depth cells ports ≡ None → new ≡ reseated p depth (height_of d.entries) ports cells
