@@ -1,5 +1,5 @@
 -- Reseating vertex by vertex, and why every vertex has its seat. Assumes nothing.
-use Rattle.std.proofs.Common.{◌≡◌, ℕ, suc, ◌+◌, ◌-◌, ◌<◌, ◌≤◌, Bool, true, false, cond, not, ◌&&◌, ◌||◌, ltb, leb, List, [], ◌∷◌, ◌++◌, length, get_or, take, drop, set, is_some, Some, None, Ok, Err, filter, Option, Result, sym, refl, ap, ◌∙◌, subst, inl, inr, arith, length-set, MatchOption}
+use Rattle.std.proofs.Common.{◌≡◌, ℕ, suc, ◌+◌, ◌-◌, ◌<◌, Bool, true, false, cond, not, ◌&&◌, ◌||◌, ltb, leb, List, [], ◌∷◌, ◌++◌, length, get_or, take, drop, set, is_some, Some, None, Ok, Err, filter, Option, Result, sym, refl, ap, ◌∙◌, subst, inl, inr, arith, length-set, MatchOption}
 use Rattle.std.proofs.lemmas.List.{length-take-le, set-append_left, take-append-drop}
 use Rattle.std.proofs.lemmas.Bool.{eqb-true, eqb-false, ltb-false, leb-false, not-false, not_from_false, and_parts, and_from, or_parts, both_ways}
 use Rattle.std.specs.List.{range_with_len}
@@ -48,9 +48,6 @@ module _ (p : Layout) (depth : ℕ) (h : Heights) (u : List ℕ) where
   abbrev pub seats_from : ℕ → List ℕ → List ℕ
   seats_from v F = seats p depth h u (left_from p v) F
 
-  pub seats_start : (F : List ℕ) → seats_from 0 F ≡ reseated p depth h u F
-  seats_start F = ap (λ n. seats p depth h u (filter (λ x. not (is_root p x)) (range_with_len 0 n)) F) (let e : p.size - 0 ≡ p.size = omega arith in e)
-
   -- v is the first that is left, unless it is the root
   seats_step : (v : ℕ) (F : List ℕ) → v < p.size → seats_from v F ≡ seats_from (v + 1) (seat p depth h u v F)
   seats_step v F within =
@@ -65,9 +62,6 @@ module _ (p : Layout) (depth : ℕ) (h : Heights) (u : List ℕ) where
   pub seats_more : (v : ℕ) (F G whole : List ℕ) → v < p.size → G ≡ seat p depth h u v F → seats_from v F ≡ whole → seats_from (v + 1) G ≡ whole
   seats_more v F G whole within is gives = ap (seats_from (v + 1)) is ∙ sym (seats_step v F within) ∙ gives
 
-  pub seats_end : (v : ℕ) (F whole : List ℕ) → p.size ≤ v → seats_from v F ≡ whole → F ≡ whole
-  seats_end v F whole past gives = ap (λ n. seats p depth h u (filter (λ x. not (is_root p x)) (range_with_len v n)) F) (let e : 0 ≡ p.size - v = omega arith in e) ∙ gives
-
   -- what stands behind all seats stays
   pub seats_front : (vs F G : List ℕ) → ((v : ℕ) → In v vs → cell_place p depth v (h v) < length F) → seats p depth h u vs (F ++ G) ≡ seats p depth h u vs F ++ G
   seats_front [] F G inside = refl
@@ -77,10 +71,6 @@ module _ (p : Layout) (depth : ℕ) (h : Heights) (u : List ℕ) where
       ∙ seats_front vs (set F at (get_or u v 0)) G (λ w there. subst (λ n. cell_place p depth w (h w) < n) (sym (length-set F at (get_or u v 0))) (inside w (inr there)))
 
 -- ---- why every vertex has its seat
-
--- the length of the cells is all that counts of them
-pub as_long : (p : Layout) (d : State) (depth : ℕ) (F G ports : List ℕ) → length F ≡ length G → HasSeats p d depth F ports → HasSeats p d depth G ports
-as_long p d depth F G ports long has = record { entered = has.entered; shallow = has.shallow; room = subst (λ n. cell_count p depth ≤ n) long has.room; enough = has.enough }
 
 or_none : {A : Type 0} (o q : Option A) → option_or o q ≡ None → (o ≡ None) × (q ≡ None)
 or_none None q none = (refl, none)

@@ -38,6 +38,3 @@ one_more f v x xs old inside is here =
     ∙ ap (λ (y : ℕ). front ++ y ∷ drop (v + 1) old) here
     ∙ sym (append_assoc front (f v ∷ []) (drop (v + 1) old))
     ∙ ap (λ (ys : List ℕ). ys ++ drop (v + 1) old) (sym (map-range_with_len_more f 0 v v (omega arith)))
-
-pub all_written : (f : ℕ → ℕ) (v n : ℕ) (xs old : List ℕ) → v ≡ n → xs ≡ map f (range_with_len 0 v) ++ drop v old → xs ≡ map f (range_with_len 0 n) ++ drop n old
-all_written f v n xs old end is = is ∙ ap (λ m. map f (range_with_len 0 m) ++ drop m old) end

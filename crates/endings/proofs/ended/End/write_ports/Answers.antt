@@ -2,7 +2,7 @@ use Rattle.std.proofs.Common.{arith}
 use Rattle.theory.specs.Draws.{height_of}
 use Rattle.theory.specs.Endings.{port_shown}
 use Rattle.draws.specs.States.{state_of}
-use Rattle.endings.proofs.Writing.{one_more, all_written}
+use Rattle.endings.proofs.Writing.{one_more}
 use Rattle.endings.proofs.ended.End.write_ports.Goals as goal
 
 pub loop-v-preserved : goal.loop-v-preserved
@@ -10,7 +10,3 @@ loop-v-preserved g c =
     one_more (port_shown (g.P.Plan.layout c.args.self.now.plan.now) (g.S.ArrowSource.cells c.args.self.now.arrows.now) (height_of (state_of c.args.self.now.draw.now).entries)) c.loop-v.v c.port_shown.result c.loop-v.ports c.args.ports.now
     (omega (arith, c.requires, c.loop-v-test.true, c.size-v-end.ensures)) c.loop-v.invariant c.port_shown.ensures
 
-pub returns : goal.returns
-returns g c =
-    all_written (port_shown (g.P.Plan.layout c.args.self.now.plan.now) (g.S.ArrowSource.cells c.args.self.now.arrows.now) (height_of (state_of c.args.self.now.draw.now).entries)) c.loop-v.v (g.P.Plan.layout c.args.self.now.plan.now).size c.loop-v.ports c.args.ports.now
-    (omega (arith, c.size-v-end.ensures, c.loop-v.auto.v-end, c.loop-v-test.false)) c.loop-v.invariant
