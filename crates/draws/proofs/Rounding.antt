@@ -1,8 +1,8 @@
 -- A way that leaves a mark behind: to meet it again is to have come round, and so is to go as many arrows as there are vertices. Assumes nothing.
-use Rattle.std.proofs.Common.{◌≡◌, ℕ, suc, ◌+◌, ◌<◌, ◌≤◌, ◌⊎◌, List, [], ◌∷◌, ◌++◌, length, Some, None, Option, sym, refl, ap, ◌∙◌, subst, inl, inr, arith, length-append}
+use Rattle.std.proofs.Common.{◌≡◌, ℕ, suc, ◌+◌, ◌<◌, ◌≤◌, ◌⊎◌, List, [], ◌∷◌, ◌++◌, length, Some, Option, sym, refl, ap, ◌∙◌, subst, inl, inr, arith, length-append}
 use Rattle.model.specs.Ways.{Way, Leads}
 use Rattle.model.proofs.Ways.{way_more}
-use Rattle.theory.specs.Laws.{Loops, Rounds, RunsOut}
+use Rattle.theory.specs.Laws.{Loops, Rounds}
 use Rattle.theory.proofs.Closing.{lead_more, lead_join, long_loops}
 
 module _ (arrow : ℕ → Option ℕ) (v : ℕ) where
@@ -22,9 +22,6 @@ module _ (arrow : ℕ → Option ℕ) (v : ℕ) where
   module _ (mark here gone : ℕ) (w : Walking mark here gone) where
     to_here : Leads arrow v here
     to_here = lead_join arrow v mark here w.to_mark w.past
-
-    pub ran_out : arrow here ≡ None → RunsOut arrow v
-    ran_out none = (here, to_here, none)
 
     loop_at : arrow here ≡ Some mark → Leads arrow mark here → Loops arrow mark
     loop_at last (inl e) = ([], ap arrow e ∙ last)

@@ -1,5 +1,6 @@
 -- A run, turn by turn: what is left of it gives what the whole gives. Assumes nothing.
-use Rattle.std.proofs.Common.{◌≡◌, ℕ, zero, suc, ◌+◌, ◌-◌, ◌≤◌, Bool, true, false, cond, List, [], ◌∷◌, ◌++◌, is_ok, Some, None, Ok, Err, Option, Result, sym, refl, ap, ◌∙◌, subst, arith}
+use Rattle.std.proofs.Common.{◌≡◌, ℕ, zero, suc, ◌+◌, ◌-◌, ◌≤◌, Bool, true, false, cond, ◌<◌, List, [], ◌∷◌, ◌++◌, is_ok, Some, None, Ok, Err, Option, Result, sym, refl, ap, ◌∙◌, subst, arith}
+use Rattle.std.proofs.lemmas.Bool.{both_ways}
 use Rattle.model.specs.Arrows.{Cells}
 use Rattle.model.specs.Layouts.{Layout, Sound}
 use Rattle.model.specs.Orders.{open_marks, PicksOpen}
@@ -58,13 +59,15 @@ module _ {O : Type 0} (picks : O → List Bool → Option ℕ) (tells : O → �
     -- ---- a step
 
     -- what a step by the order leaves, answers and tells
-    pub record Stepped (o : O) (h after : Held) (r : Result Tried DrawFault) (last : O) : Type 0 where
-      pub held : after ≡ (steps p a (strategy o) h).held
-      pub answer : r ≡ (steps p a (strategy o) h).answer
-      pub order : last ≡ told_all tells o (steps p a (strategy o) h).told
-      pub law : StepLaw p a (picks o (open_marks h.draw.entries)) h after r
+    abbrev pub Stepped : O → Held → Held → Result Tried DrawFault → O → Type 0
+    Stepped o h after r last = record {
+      held : after ≡ (steps p a (strategy o) h).held;
+      answer : r ≡ (steps p a (strategy o) h).answer;
+      order : last ≡ told_all tells o (steps p a (strategy o) h).told;
+      law : StepLaw p a (picks o (open_marks h.draw.entries)) h after r;
+    }
 
-    pub stepped_as : (o : O) (h after : Held) (r : Result Tried DrawFault) (last : O) (x : After (Result Tried DrawFault)) → steps p a (strategy o) h ≡ x → after ≡ x.held → r ≡ x.answer → last ≡ told_all tells o x.told → Stepped o h after r last
+    stepped_as : (o : O) (h after : Held) (r : Result Tried DrawFault) (last : O) (x : After (Result Tried DrawFault)) → steps p a (strategy o) h ≡ x → after ≡ x.held → r ≡ x.answer → last ≡ told_all tells o x.told → Stepped o h after r last
     stepped_as o h after r last x is is_held_lem is_answer is_order =
         let held : after ≡ (steps p a (strategy o) h).held = is_held_lem ∙ ap (λ y. y.held) (sym is) in
         let answer : r ≡ (steps p a (strategy o) h).answer = is_answer ∙ ap (λ y. y.answer) (sym is) in
@@ -78,11 +81,15 @@ module _ {O : Type 0} (picks : O → List Bool → Option ℕ) (tells : O → �
               (subst (λ y. StepLaw p a pick h (steps p a (strategy o) h).held y) (sym answer) (step_law p a sound (strategy o) h (lawful o (open_marks h.draw.entries))));
         }
 
-    pub step_at : (o : O) (h : Held) (v : ℕ) → is_of p h.draw ≡ true → picks o (open_marks h.draw.entries) ≡ Some v → steps p a (strategy o) h ≡ telling v (tries p a v h)
+    step_at : (o : O) (h : Held) (v : ℕ) → is_of p h.draw ≡ true → picks o (open_marks h.draw.entries) ≡ Some v → steps p a (strategy o) h ≡ telling v (tries p a v h)
     step_at o h v of_plan is = at_pick p a sound (strategy o) h (Some v) of_plan is
 
-    pub step_none : (o : O) (h : Held) → is_of p h.draw ≡ true → picks o (open_marks h.draw.entries) ≡ None → steps p a (strategy o) h ≡ refused h fault.NothingOpen
-    step_none o h of_plan is = at_pick p a sound (strategy o) h None of_plan is
+    pub steps_at : (o : O) (h after : Held) (r : Result Tried DrawFault) (last : O) (v : ℕ) → is_of p h.draw ≡ true → picks o (open_marks h.draw.entries) ≡ Some v
+        → let x = telling v (tries p a v h) in after ≡ x.held → r ≡ x.answer → last ≡ told_all tells o x.told → Stepped o h after r last
+    steps_at o h after r last v of_plan is held answer order = stepped_as o h after r last (telling v (tries p a v h)) (step_at o h v of_plan is) held answer order
+
+    pub steps_nowhere : (o : O) (h : Held) → is_of p h.draw ≡ true → picks o (open_marks h.draw.entries) ≡ None → Stepped o h h (Err fault.NothingOpen) o
+    steps_nowhere o h of_plan is = stepped_as o h h (Err fault.NothingOpen) o (refused h fault.NothingOpen) (at_pick p a sound (strategy o) h None of_plan is) refl refl refl
 
     -- ---- a run
 
@@ -106,16 +113,18 @@ module _ {O : Type 0} (picks : O → List Bool → Option ℕ) (tells : O → �
         let same : rest budget first 0 start ≡ whole budget first start = ap (λ n. runs_on p a (strategy first) n 0 start) all in
         record { of_plan = of_plan; within = omega arith; same_held = ap (λ x. x.held) same; same_answer = ap (λ x. x.answer) same; same_order = ap (λ x. told_all tells first x.told) same }
 
-    module _ (budget : ℕ) (first : O) (start : Held) (o : O) (made : ℕ) (h : Held) (r : Running budget first start o made h) where
-      -- what a run that stops here leaves and answers
-      pub record Stopped (why : Stop) : Type 0 where
-        pub held : h ≡ (runs p a (strategy first) budget start).held
-        pub answer : Ok (made, why) ≡ (runs p a (strategy first) budget start).answer
-        pub order : o ≡ told_all tells first (runs p a (strategy first) budget start).told
-        pub law : RunLaw p a (strategy first) budget start h made why
+    module _ (budget : ℕ) (first : O) (start : Held) (o : O) (made : ℕ) (h : Held) (r : Running budget first start o made h) (of_start : is_of p start.draw ≡ true) where
+      -- what a run that stops so leaves, answers and tells
+      abbrev pub Stopped : O → Held → ℕ → Stop → Type 0
+      Stopped last after count why = record {
+        held : after ≡ (runs p a (strategy first) budget start).held;
+        answer : Ok (count, why) ≡ (runs p a (strategy first) budget start).answer;
+        order : last ≡ told_all tells first (runs p a (strategy first) budget start).told;
+        law : RunLaw p a (strategy first) budget start after count why;
+      }
 
-      stops : is_of p start.draw ≡ true → (why : Stop) → rest budget o made h ≡ stopped h made why → Stopped why
-      stops of_start why is =
+      stops : (why : Stop) → rest budget o made h ≡ stopped h made why → Stopped o h made why
+      stops why is =
           let ran : runs p a (strategy first) budget start ≡ whole budget first start = ap (λ b. cond b (whole budget first start) (refused start fault.OtherPlan)) of_start in
           let held : h ≡ (whole budget first start).held = ap (λ x. x.held) (sym is) ∙ r.same_held in
           let answer : Ok (made, why) ≡ (whole budget first start).answer = ap (λ x. x.answer) (sym is) ∙ r.same_answer in
@@ -126,12 +135,15 @@ module _ {O : Type 0} (picks : O → List Bool → Option ℕ) (tells : O → �
             law = subst (λ x. RunLaw p a (strategy first) budget start x made why) (sym held) (run_law p a sound (strategy first) budget start (strategy_lawful first) of_start made why (sym answer));
           }
 
-      pub stops_ended : is_of p start.draw ≡ true → picks o (open_marks h.draw.entries) ≡ None → Stopped Ended
-      stops_ended of_start none = stops of_start Ended (runs_ended p a (strategy o) made h (budget - made) (none_picked o h none))
+      pub stops_ended : picks o (open_marks h.draw.entries) ≡ None → Stopped o h made Ended
+      stops_ended none = stops Ended (runs_ended p a (strategy o) made h (budget - made) (none_picked o h none))
+
+      pub ended_at : budget ≤ made → picks o (open_marks h.draw.entries) ≡ None → Stopped o h budget Ended
+      ended_at past none = subst (λ n. Stopped o h n Ended) (let e : made ≡ budget = omega (arith, r.within) in e) (stops_ended none)
 
       module _ (v : ℕ) (pick : picks o (open_marks h.draw.entries) ≡ Some v) where
-        pub stops_spent : is_of p start.draw ≡ true → made ≡ budget → Stopped Spent
-        stops_spent of_start spent = stops of_start Spent (runs_spent p a (strategy o) made h (budget - made) (omega arith) (picked_open o h v pick))
+        pub spent_at : budget ≤ made → Stopped o h budget Spent
+        spent_at past = subst (λ n. Stopped o h n Spent) (let e : made ≡ budget = omega (arith, r.within) in e) (stops Spent (runs_spent p a (strategy o) made h (budget - made) (omega arith) (picked_open o h v pick)))
 
         abbrev x : After (Result Tried DrawFault)
         x = telling v (tries p a v h)
@@ -144,26 +156,19 @@ module _ {O : Type 0} (picks : O → List Bool → Option ℕ) (tells : O → �
             ∙ ap (λ y. cond b (preceded y.popped y.told (runs_on p a (all_told (strategy o) y.told) left (suc made) y.held)) (stopped h made Full)) is
             ∙ ap (λ s. cond b (preceded x.popped x.told (runs_on p a s left (suc made) x.held)) (stopped h made Full)) (told_strategy o x.told)
 
-        one_less : (made ≡ budget → ⊥) → budget - made ≡ suc (budget - (made + 1))
-        one_less unspent = omega (arith, r.within)
-
-        pub stops_full : is_of p start.draw ≡ true → (made ≡ budget → ⊥) → is_ok x.answer ≡ false → Stopped Full
-        stops_full of_start unspent full = stops of_start Full (turn (budget - (made + 1)) false (one_less unspent) full)
+        one_less : made < budget → budget - made ≡ suc (budget - (made + 1))
+        one_less unspent = omega arith
 
         -- a refused try leaves all as it was, and the order is told nothing
-        pub stops_refused : is_of p start.draw ≡ true → (made ≡ budget → ⊥) → (e : DrawFault) → Err e ≡ x.answer → (last : O) (after : Held) → last ≡ told_all tells o x.told → after ≡ x.held
-            → (after ≡ (runs p a (strategy first) budget start).held) × (Ok (made, Full) ≡ (runs p a (strategy first) budget start).answer) × (last ≡ told_all tells first (runs p a (strategy first) budget start).told) × RunLaw p a (strategy first) budget start after made Full
-        stops_refused of_start unspent e is last after is_last is_after =
-            let no_ok : is_ok x.answer ≡ false = ap (λ r. is_ok r) (sym is) in
-            let s = stops_full of_start unspent no_ok in
-            let same : after ≡ h = is_after ∙ (try_law p a v h sound).unchanged e (sym is) in (
-              same ∙ s.held,
-              s.answer,
-              is_last ∙ ap (λ b. told_all tells o (cond b (v ∷ []) [])) no_ok ∙ s.order,
-              subst (λ y. RunLaw p a (strategy first) budget start y made Full) (sym same) s.law,
-            )
+        pub stops_full : made < budget → (t : Result Tried DrawFault) → is_ok t ≡ false → t ≡ x.answer → (last : O) (after : Held) → last ≡ told_all tells o x.told → after ≡ x.held → Stopped last after made Full
+        stops_full unspent (Ok y) failed is last after is_last is_after = absurd (both_ways _ failed refl)
+        stops_full unspent (Err e) failed is last after is_last is_after =
+            let full : is_ok x.answer ≡ false = ap (λ t. is_ok t) (sym is) in
+            let same_order : last ≡ o = is_last ∙ ap (λ b. told_all tells o (cond b (v ∷ []) [])) full in
+            let same : after ≡ h = is_after ∙ (try_law p a v h sound).unchanged e (sym is) in
+            subst (λ y. Stopped y after made Full) (sym same_order) (subst (λ y. Stopped o y made Full) (sym same) (stops Full (turn (budget - (made + 1)) false (one_less unspent) full)))
 
-        pub goes_on : (made ≡ budget → ⊥) → is_ok x.answer ≡ true → (last : O) (after : Held) → last ≡ told_all tells o x.told → after ≡ x.held → Running budget first start last (made + 1) after
+        pub goes_on : made < budget → is_ok x.answer ≡ true → (last : O) (after : Held) → last ≡ told_all tells o x.told → after ≡ x.held → Running budget first start last (made + 1) after
         goes_on unspent ok last after is_last is_after = subst (λ y. Running budget first start y (made + 1) after) (sym is_last) (subst (λ y. Running budget first start (told_all tells o x.told) (made + 1) y) (sym is_after) next)
           where
             later : After (Result (ℕ × Stop) DrawFault)

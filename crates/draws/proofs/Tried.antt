@@ -1,17 +1,14 @@
 -- What a try finds on its way decides what it does. Assumes nothing.
-use Rattle.std.proofs.Common.{◌≡◌, ℕ, suc, ◌+◌, ◌<◌, ◌≤◌, Bool, true, false, cond, not, ltb, List, [], ◌∷◌, length, set, Some, None, Ok, Option, Result, sym, refl, ap, ◌∙◌, subst, arith, MatchOption}
-use Rattle.std.proofs.lemmas.List.{length-map}
+use Rattle.std.proofs.Common.{◌≡◌, ℕ, suc, ◌<◌, ◌≤◌, Bool, true, false, cond, not, ltb, List, [], ◌∷◌, length, Some, None, Option, Result, sym, refl, ap, ◌∙◌, subst, arith, MatchOption}
 use Rattle.model.specs.Arrows.{Cells}
 use Rattle.model.specs.Layouts.{Layout, Sound}
 use Rattle.model.specs.declared.draw.Entry.{Entry}
-use Rattle.model.specs.declared.draw.Pop.{Pop}
 use Rattle.model.specs.declared.draw.Tried.{Tried}
-use Rattle.model.specs.declared.draw.Tried.TheVariants.{Popped}
 use Rattle.model.specs.declared.fault.DrawFault.{DrawFault}
 use Rattle.model.specs.declared.fault.DrawFault.TheVariants as fault
-use Rattle.theory.specs.Calls.{After, first_fault, refused, settles, pops_cycle, by_trail, tries}
-use Rattle.theory.specs.Cycles.{Heights, among, Cycle, coloured}
-use Rattle.theory.specs.Draws.{height_of, is_settled, changed, higher, Held, is_of, shown, Trail, trail, turned, record_of}
+use Rattle.theory.specs.Calls.{first_fault, refused, settles, by_trail, tries}
+use Rattle.theory.specs.Cycles.{among, Cycle}
+use Rattle.theory.specs.Draws.{height_of, is_settled, changed, higher, Held, is_of, shown, Trail, trail, turned}
 use Rattle.theory.specs.Ends.{if_some}
 use Rattle.theory.specs.Laws.{Rounds, RunsOut, Closes, open_arrows, TryLaw}
 use Rattle.theory.proofs.Closing.{not_both, closes_rounds, rounds_on}
@@ -21,30 +18,6 @@ use Rattle.theory.proofs.Entries.{raised_heights}
 use Rattle.theory.proofs.TryLaw.{open_arrow, arrow_open, EndedTrail, follows, try_law}
 use Rattle.draws.specs.Popping.{popping}
 use Rattle.draws.proofs.Shown.{cycle_under}
-
--- the record that is put together is the cycle's
-pub record_is : (hs : Heights) (m : ℕ) (rest : List ℕ) (vertex height long : ℕ) → vertex ≡ m → height ≡ hs vertex → long ≡ suc (length rest) → record { vertex = vertex; height = height; length = long } ≡ record_of (coloured hs (m ∷ rest))
-record_is hs m rest vertex height long v_is h_is l_is =
-    let whole : long ≡ suc (length (coloured hs rest)) = l_is ∙ ap suc (sym (length-map rest _)) in
-    let at : height ≡ hs m = h_is ∙ ap hs v_is in
-    cc
-
-pub popped_in : (h : Held) (c : List ℕ) → ltb h.draw.pops (length h.list) ≡ true → popping h c ≡ pops_cycle h c
-popped_in h c room = ap (λ b. cond b (pops_cycle h c) (refused h fault.ListFull)) room
-
--- what is left and answered where the cycle from m was popped
-pub pops_as : (h : Held) (m : ℕ) (rest : List ℕ) (entries : List Entry) (list : List Pop) (pop : Pop) → ltb h.draw.pops (length h.list) ≡ true → entries ≡ changed higher (m ∷ rest) h.draw.entries
-    → list ≡ set h.list h.draw.pops pop → pop ≡ record_of (coloured (height_of h.draw.entries) (m ∷ rest))
-    → (record { draw = record { entries = entries; root = h.draw.root; pops = h.draw.pops + 1 }; list = list } ≡ (popping h (m ∷ rest)).held) × (Ok (Popped pop) ≡ (popping h (m ∷ rest)).answer)
-pops_as h m rest entries list pop room is_entries is_list is_pop =
-    let one : h.draw.pops + 1 ≡ suc h.draw.pops = omega arith in
-    let in_list : list ≡ set h.list h.draw.pops (record_of (coloured (height_of h.draw.entries) (m ∷ rest))) = is_list ∙ ap (set h.list h.draw.pops) is_pop in (
-      (λ i. record { draw = record { entries = is_entries i; root = h.draw.root; pops = one i }; list = in_list i }) ∙ ap (λ (x : After (Result Tried DrawFault)). x.held) (sym (popped_in h (m ∷ rest) room)),
-      ap (λ x. Ok (Popped x)) is_pop ∙ ap (λ (x : After (Result Tried DrawFault)). x.answer) (sym (popped_in h (m ∷ rest) room)),
-    )
-
-pub popped_full : (h : Held) (c : List ℕ) → ltb h.draw.pops (length h.list) ≡ false → popping h c ≡ refused h fault.ListFull
-popped_full h c full = ap (λ b. cond b (pops_cycle h c) (refused h fault.ListFull)) full
 
 module _ (p : Layout) (a : Cells) (sound : Sound p) where
   -- no vertex is raised above 4,096

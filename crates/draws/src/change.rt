@@ -3,23 +3,10 @@ ghost use Rattle.std.specs.Prelude.{◌≡◌, ℕ, suc, ◌<◌, List, ◌∷�
 ghost use Rattle.theory.specs.Cycles.{Cycle};
 ghost use Rattle.theory.specs.Draws.{no_entry, height_of, shown, trail, changed, higher, shut};
 
-use crate::arrows::{settled, target};
-use model::draw::{Entries, Entry};
+use crate::sight::Sight;
+use model::draw::Entries;
 use model::plan::Plan;
 use model::source::ArrowSource;
-
-fn raise(entry: &mut Entry)
-    requires { entry.old.height < 4096 }
-    ensures { entry.new ≡ higher entry.old }
-{
-    entry.height += 1;
-}
-
-fn settle(entry: &mut Entry)
-    ensures { entry.new ≡ shut entry.old }
-{
-    entry.settled = true;
-}
 
 // Raises the entry of `v`.
 fn raise_at(entries: &mut Entries, v: u16)
@@ -27,7 +14,7 @@ fn raise_at(entries: &mut Entries, v: u16)
     requires under { height_of entries.old.list.items v < 4096 }
     ensures { entries.new.list.items ≡ slice_set entries.old.list.items v (higher (slice_index_or entries.old.list.items v no_entry)) }
 {
-    raise(&mut entries.list[v as usize]);
+    entries.list[v as usize].height += 1;
 }
 
 // Settles the entry of `v`.
@@ -35,7 +22,7 @@ fn settle_at(entries: &mut Entries, v: u16)
     requires { v < vec_len entries.old.list }
     ensures { entries.new.list.items ≡ slice_set entries.old.list.items v (shut (slice_index_or entries.old.list.items v no_entry)) }
 {
-    settle(&mut entries.list[v as usize]);
+    entries.list[v as usize].settled = true;
 }
 
 // Raises every vertex of the cycle whose lowest is `low`, and counts them.
@@ -52,7 +39,12 @@ pub(crate) fn raise_cycle<P: Plan, S: ArrowSource>(
     let mut here = low;
     let mut count = 0;
     loop {
-        let next = target(entries, plan, arrows, here);
+        let sight = Sight {
+            entries,
+            plan,
+            arrows,
+        };
+        let next = sight.target(here);
         raise_at(entries, here);
         count += 1;
         let Some(next) = next else {
@@ -80,8 +72,16 @@ pub(crate) fn settle_way<P: Plan, S: ArrowSource>(
 {
     let mut here = start;
     let mut count = 0;
-    while !settled(entries, here) {
-        let next = target(entries, plan, arrows, here);
+    loop {
+        let sight = Sight {
+            entries,
+            plan,
+            arrows,
+        };
+        if sight.settled(here) {
+            return count;
+        }
+        let next = sight.target(here);
         settle_at(entries, here);
         count += 1;
         let Some(next) = next else {
@@ -89,5 +89,4 @@ pub(crate) fn settle_way<P: Plan, S: ArrowSource>(
         };
         here = next;
     }
-    count
 }

@@ -1,11 +1,10 @@
 // Following the way from a vertex: whether it comes round, and the lowest vertex of the loop.
-ghost use Rattle.std.specs.Prelude.{◌≡◌, ℕ, ◌<◌, true, ◌⊎◌, List, ◌∷◌, length, MatchOption};
+ghost use Rattle.std.specs.Prelude.{◌≡◌, ℕ, ◌<◌, true, ◌⊎◌, List, ◌∷◌, MatchOption};
 ghost use Rattle.theory.specs.Cycles.{among, Cycle};
 ghost use Rattle.theory.specs.Draws.{shown};
 ghost use Rattle.theory.specs.Laws.{Rounds, RunsOut, open_arrows};
 
-use crate::arrows::{onward, target};
-use model::draw::Entries;
+use crate::sight::Sight;
 use model::plan::Plan;
 use model::source::ArrowSource;
 
@@ -25,9 +24,8 @@ impl Mark {
     {
         if self.left > 1 {
             Mark {
-                vertex: self.vertex,
                 left: self.left - 1,
-                lap: self.lap,
+                ..self
             }
         } else {
             let lap = self.lap.saturating_mul(2);
@@ -40,58 +38,46 @@ impl Mark {
     }
 }
 
-// A vertex on the loop to which the way from `v` comes; none where it comes to a settled or dry vertex.
-// To meet the mark again is to have come round, and so is to have gone as many arrows as there are vertices.
-pub(crate) fn comes_round<P: Plan, S: ArrowSource>(
-    entries: &Entries,
-    plan: &P,
-    arrows: &S,
-    v: u16,
-) -> Option<u16>
-    requires sized { length entries.now.list.items ≡ (P.layout plan.now).size }
-    requires within { v < (P.layout plan.now).size }
-    ensures { MatchOption result (RunsOut (open_arrows (P.layout plan.now) (S.cells arrows.now) entries.now.list.items) v) (Rounds (open_arrows (P.layout plan.now) (S.cells arrows.now) entries.now.list.items) v) }
-{
-    let mut mark = Mark {
-        vertex: v,
-        left: 1,
-        lap: 1,
-    };
-    let mut here = v;
-    for gone in 0..entries.list.len() {
-        let Some(next) = onward(entries, plan, arrows, here) else {
-            return None;
+impl<'a, P: Plan, S: ArrowSource> Sight<'a, P, S> {
+    // A vertex on the loop to which the way from `v` comes; none where it comes to a settled or dry vertex.
+    // To meet the mark again is to have come round, and so is to have gone as many arrows as there are vertices.
+    pub(crate) fn comes_round(&self, v: u16) -> Option<u16>
+        requires { v < (P.layout self.now.plan.now).size }
+        ensures { MatchOption result (RunsOut (open_arrows (P.layout self.now.plan.now) (S.cells self.now.arrows.now) self.now.entries.now.list.items) v) (Rounds (open_arrows (P.layout self.now.plan.now) (S.cells self.now.arrows.now) self.now.entries.now.list.items) v) }
+    {
+        let mut mark = Mark {
+            vertex: v,
+            left: 1,
+            lap: 1,
         };
-        if next == mark.vertex {
-            return Some(next);
+        let mut here = v;
+        for _gone in 0..self.plan.size() {
+            let next = self.onward(here)?;
+            if next == mark.vertex {
+                return Some(next);
+            }
+            mark = mark.passed(next);
+            here = next;
         }
-        mark = mark.passed(next);
-        here = next;
+        Some(here)
     }
-    Some(here)
-}
 
-// The lowest vertex of the cycle that `start` is on.
-pub(crate) fn lowest_around<P: Plan, S: ArrowSource>(
-    entries: &Entries,
-    plan: &P,
-    arrows: &S,
-    start: u16,
-) -> u16
-    requires sized { length entries.now.list.items ≡ (P.layout plan.now).size }
-    ensures { (m : ℕ) (rest : List ℕ) → Cycle (shown (P.layout plan.now) (S.cells arrows.now) entries.now.list.items) (m ∷ rest) → among start (m ∷ rest) ≡ true → result ≡ m }
-{
-    let mut low = start;
-    let mut here = start;
-    for gone in 0..entries.list.len() {
-        let Some(next) = target(entries, plan, arrows, here) else {
-            return low;
-        };
-        low = low.min(next);
-        if next == start {
-            return low;
+    // The lowest vertex of the cycle that `start` is on.
+    pub(crate) fn lowest_around(&self, start: u16) -> u16
+        ensures { (m : ℕ) (rest : List ℕ) → Cycle (shown (P.layout self.now.plan.now) (S.cells self.now.arrows.now) self.now.entries.now.list.items) (m ∷ rest) → among start (m ∷ rest) ≡ true → result ≡ m }
+    {
+        let mut low = start;
+        let mut here = start;
+        for _gone in 0..self.plan.size() {
+            let Some(next) = self.target(here) else {
+                return low;
+            };
+            low = low.min(next);
+            if next == start {
+                return low;
+            }
+            here = next;
         }
-        here = next;
+        low
     }
-    low
 }

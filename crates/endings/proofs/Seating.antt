@@ -1,11 +1,12 @@
 -- Reseating vertex by vertex, and why every vertex has its seat. Assumes nothing.
-use Rattle.std.proofs.Common.{◌≡◌, ℕ, suc, ◌+◌, ◌-◌, ◌<◌, ◌≤◌, Bool, true, false, cond, not, ◌&&◌, ◌||◌, ltb, leb, List, [], ◌∷◌, ◌++◌, length, get_or, take, drop, set, is_some, Some, None, Ok, filter, Option, Result, sym, refl, ap, ◌∙◌, subst, inl, inr, arith, length-set, MatchOption}
+use Rattle.std.proofs.Common.{◌≡◌, ℕ, suc, ◌+◌, ◌-◌, ◌<◌, Bool, true, false, cond, not, ◌&&◌, ◌||◌, ltb, leb, List, [], ◌∷◌, ◌++◌, length, get_or, take, drop, set, is_some, Some, None, Ok, Err, filter, Option, Result, sym, refl, ap, ◌∙◌, subst, inl, inr, arith, length-set, MatchOption}
 use Rattle.std.proofs.lemmas.List.{length-take-le, set-append_left, take-append-drop}
 use Rattle.std.proofs.lemmas.Bool.{eqb-true, eqb-false, ltb-false, leb-false, not-false, not_from_false, and_parts, and_from, or_parts, both_ways}
 use Rattle.std.specs.List.{range_with_len}
 use Rattle.std.specs.Option.{option_or}
 use Rattle.model.proofs.Lowest.{NoneBelow, IsLowest, lowest_tells}
 use Rattle.model.proofs.Ways.{none_some, same_some}
+use Rattle.model.specs.Answers.{answered}
 use Rattle.model.specs.Arrows.{Cells, visible, is_dry}
 use Rattle.model.specs.Depths.{cells_fault}
 use Rattle.model.specs.Distinct.{In}
@@ -13,6 +14,7 @@ use Rattle.model.specs.Filed.{lacks_cell, place}
 use Rattle.model.specs.Layouts.{Layout, Sound, is_root}
 use Rattle.model.specs.declared.fault.DrawFault.{DrawFault}
 use Rattle.model.specs.declared.fault.DrawFault.TheVariants.{Short, OtherPlan, Dry}
+use Rattle.sources.specs.declared.listing.Listing.{Listing}
 use Rattle.theory.proofs.Fillings.{place_below}
 use Rattle.theory.proofs.Reseating.{in_drained, shown_shallow}
 use Rattle.theory.specs.Calls.{first_fault}
@@ -26,8 +28,8 @@ use Rattle.endings.specs.Seats.{seat, HasSeats}
 -- ---- one vertex
 
 -- what has a place is a cell of a vertex other than the root above the depth, so the place is among those of the cells
-pub placed_below : (p : Layout) → Sound p → (n r depth v k at : ℕ) → n ≡ p.size → r ≡ p.root → Some at ≡ place n r depth v k → at < cell_count p depth
-placed_below p sound n r depth v k at same_size same_root is = by (lacks_cell p.size p.root depth v k) refl (sym (is ∙ ap (λ m. place m r depth v k) same_size ∙ ap (λ w. place p.size w depth v k) same_root))
+pub placed_below : (p : Layout) → Sound p → (l : Listing) (depth v k at : ℕ) → l ≡ record { size = p.size; root = p.root; depth = depth } → Some at ≡ place l.size l.root l.depth v k → at < cell_count p depth
+placed_below p sound l depth v k at listed is = by (lacks_cell p.size p.root depth v k) refl (sym (is ∙ ap (λ (x : Listing). place x.size x.root x.depth v k) listed))
   where
     by : (b : Bool) → lacks_cell p.size p.root depth v k ≡ b → cond b None (Some (cell_place p depth v k)) ≡ Some at → at < cell_count p depth
     by true lacks none = absurd (none_some None at refl none)
@@ -46,9 +48,6 @@ module _ (p : Layout) (depth : ℕ) (h : Heights) (u : List ℕ) where
   abbrev pub seats_from : ℕ → List ℕ → List ℕ
   seats_from v F = seats p depth h u (left_from p v) F
 
-  pub seats_start : (F : List ℕ) → seats_from 0 F ≡ reseated p depth h u F
-  seats_start F = ap (λ n. seats p depth h u (filter (λ x. not (is_root p x)) (range_with_len 0 n)) F) (let e : p.size - 0 ≡ p.size = omega arith in e)
-
   -- v is the first that is left, unless it is the root
   seats_step : (v : ℕ) (F : List ℕ) → v < p.size → seats_from v F ≡ seats_from (v + 1) (seat p depth h u v F)
   seats_step v F within =
@@ -63,9 +62,6 @@ module _ (p : Layout) (depth : ℕ) (h : Heights) (u : List ℕ) where
   pub seats_more : (v : ℕ) (F G whole : List ℕ) → v < p.size → G ≡ seat p depth h u v F → seats_from v F ≡ whole → seats_from (v + 1) G ≡ whole
   seats_more v F G whole within is gives = ap (seats_from (v + 1)) is ∙ sym (seats_step v F within) ∙ gives
 
-  pub seats_end : (v : ℕ) (F whole : List ℕ) → p.size ≤ v → seats_from v F ≡ whole → F ≡ whole
-  seats_end v F whole past gives = ap (λ n. seats p depth h u (filter (λ x. not (is_root p x)) (range_with_len v n)) F) (let e : 0 ≡ p.size - v = omega arith in e) ∙ gives
-
   -- what stands behind all seats stays
   pub seats_front : (vs F G : List ℕ) → ((v : ℕ) → In v vs → cell_place p depth v (h v) < length F) → seats p depth h u vs (F ++ G) ≡ seats p depth h u vs F ++ G
   seats_front [] F G inside = refl
@@ -75,10 +71,6 @@ module _ (p : Layout) (depth : ℕ) (h : Heights) (u : List ℕ) where
       ∙ seats_front vs (set F at (get_or u v 0)) G (λ w there. subst (λ n. cell_place p depth w (h w) < n) (sym (length-set F at (get_or u v 0))) (inside w (inr there)))
 
 -- ---- why every vertex has its seat
-
--- the length of the cells is all that counts of them
-pub as_long : (p : Layout) (d : State) (depth : ℕ) (F G ports : List ℕ) → length F ≡ length G → HasSeats p d depth F ports → HasSeats p d depth G ports
-as_long p d depth F G ports long has = record { entered = has.entered; shallow = has.shallow; room = subst (λ n. cell_count p depth ≤ n) long has.room; enough = has.enough }
 
 or_none : {A : Type 0} (o q : Option A) → option_or o q ≡ None → (o ≡ None) × (q ≡ None)
 or_none None q none = (refl, none)
@@ -132,6 +124,12 @@ in_front p sound d depth cells ports has =
     let (low, other) = in_drained p v there in
     let below : cell_place p depth v (h v) < cell_count p depth = place_below p sound depth v (h v) (eqb-false v p.root other) low (has.shallow v low other) in
     omega (arith, length-take-le (cell_count p depth) cells has.room))
+
+-- what is refused changes nothing
+pub refused : (fault : Option DrawFault) (e : DrawFault) (r : Result (Unit {0}) DrawFault) (ports new : List ℕ) → r ≡ Err e → ◌≡◌ {A = Result (Unit {0}) DrawFault} (Err e) (answered fault tt)
+    → ◌≡◌ {A = Result (Unit {0}) DrawFault × List ℕ} (r, ports) (written fault ports new)
+refused None e r ports new is found = absurd (cc)
+refused (Some x) e r ports new is found = ap (λ (y : Result (Unit {0}) DrawFault). (y, ports)) (is ∙ found)
 
 -- where nothing is refused, the call is the seating of all
 pub reseats_all : (p : Layout) → Sound p → (d : State) (depth : ℕ) (cells ports new : List ℕ) → reseat_fault p d depth cells ports ≡ None → new ≡ reseated p depth (height_of d.entries) ports cells

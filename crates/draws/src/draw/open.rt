@@ -2,39 +2,30 @@
 ghost use Rattle.std.specs.Prelude.{◌≡◌, MatchResult};
 ghost use Rattle.model.specs.Arrows.{visible};
 ghost use Rattle.model.specs.declared.fault.DrawFault.TheVariants.{NoMemory};
-ghost use Rattle.theory.specs.Draws.{fresh_entry, height_of, opened, is_of};
+ghost use Rattle.theory.specs.Draws.{height_of, opened, is_of};
 ghost use Rattle.theory.specs.OneEnd.{OneEndByCalls};
 ghost use Rattle.draws.specs.States.{state_of};
 
 use super::Draw;
-use crate::arrows;
+use crate::sight::Sight;
 use model::draw::{Entries, Entry};
 use model::fault::DrawFault;
 use model::plan::Plan;
 use model::source::ArrowSource;
 use std::alloc::Global;
 
-// The entry of a vertex that nothing was done with: only the root is settled.
-fn fresh_entry<P: Plan>(plan: &P, v: u16) -> Entry
-    ensures { result ≡ fresh_entry (P.layout plan.now) v }
-{
-    Entry {
-        height: 0,
-        settled: v == plan.root(),
-    }
-}
-
 // An entry for each vertex: all at height 0, and open but for the root.
-fn fresh_entries<P: Plan>(plan: &P, heap: Global) -> Result<Entries, DrawFault>
-    ensures { MatchResult result (λ e. e.list.items ≡ (opened (P.layout plan.now)).entries) (λ e. e ≡ NoMemory) }
+fn fresh_entries<P: Plan>(plan: &P, heap: Global) -> Result<Vec<Entry>, DrawFault>
+    ensures { MatchResult result (λ l. l.items ≡ (opened (P.layout plan.now)).entries) (λ e. e ≡ NoMemory) }
 {
-    let mut list = Vec::new(heap);
-    for v in 0..plan.size() {
-        let Ok(()) = list.push(fresh_entry(plan, v)) else {
-            return Err(DrawFault::NoMemory);
-        };
-    }
-    Ok(Entries { list })
+    let root = plan.root();
+    let list = (0..plan.size())
+        .map(|v| Entry {
+            height: 0,
+            settled: v == root,
+        })
+        .collect(heap)?;
+    Ok(list)
 }
 
 impl Draw {
@@ -44,9 +35,9 @@ impl Draw {
         ensures fresh { MatchResult result (λ d. state_of d ≡ opened (P.layout plan.now)) (λ e. e ≡ NoMemory) }
         ensures theorem { OneEndByCalls }
     {
-        let entries = fresh_entries(plan, heap)?;
+        let list = fresh_entries(plan, heap)?;
         Ok(Draw {
-            entries,
+            entries: Entries { list },
             root: plan.root(),
             pops: 0,
         })
@@ -69,13 +60,18 @@ impl Draw {
     pub fn is_of<P: Plan>(&self, plan: &P) -> bool
         ensures { result ≡ is_of (P.layout plan.now) (state_of self.now) }
     {
-        (self.entries.list.len() == plan.size() as usize) & (self.root == plan.root())
+        self.entries.list.len() == plan.size() as usize && self.root == plan.root()
     }
 
     // The port that the vertex shows at its height, none at the root and at a dry vertex.
     pub fn visible_port<P: Plan, S: ArrowSource>(&self, plan: &P, arrows: &S, v: u16) -> Option<u16>
         ensures { result ≡ visible (P.layout plan.now) (S.cells arrows.now) v (height_of (state_of self.now).entries v) }
     {
-        arrows::visible_port(&self.entries, plan, arrows, v)
+        let sight = Sight {
+            entries: &self.entries,
+            plan,
+            arrows,
+        };
+        sight.visible_port(v)
     }
 }

@@ -1,5 +1,5 @@
 // Trying vertices in an order: one step, and a run of steps.
-ghost use Rattle.std.specs.Prelude.{◌≡◌, MatchResult, ◌==◌};
+ghost use Rattle.std.specs.Prelude.{◌≡◌, MatchResult};
 ghost use Rattle.model.specs.Orders.{open_marks};
 ghost use Rattle.model.specs.declared.fault.DrawFault.TheVariants.{OtherPlan};
 ghost use Rattle.theory.specs.Calls.{does, step, run, tries, telling, told_all, strategy_of};
@@ -12,12 +12,6 @@ use model::fault::DrawFault;
 use model::order::Order;
 use model::plan::Plan;
 use model::source::ArrowSource;
-
-fn is_spent(tries: u32, budget: u32) -> bool
-    ensures { result ≡ (tries == budget) }
-{
-    tries == budget
-}
 
 impl Draw {
     // Tries the vertex that the order picked, and tells the order of it unless the try is refused.
@@ -78,18 +72,18 @@ impl Draw {
         if !self.is_of(plan) {
             return Err(DrawFault::OtherPlan);
         }
-        let mut tries = 0;
-        loop {
+        for tries in 0..budget {
             let Some(v) = order.pick(&self.entries) else {
                 return Ok((tries, Stop::Ended));
             };
-            if is_spent(tries, budget) {
-                return Ok((tries, Stop::Spent));
-            }
-            let Ok(_) = self.follow(plan, arrows, list, order, v) else {
+            if self.follow(plan, arrows, list, order, v).is_err() {
                 return Ok((tries, Stop::Full));
-            };
-            tries += 1;
+            }
         }
+        let stop = match order.pick(&self.entries) {
+            Some(_) => Stop::Spent,
+            None => Stop::Ended,
+        };
+        Ok((budget, stop))
     }
 }

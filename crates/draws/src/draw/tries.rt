@@ -1,5 +1,5 @@
 // Trying a vertex.
-ghost use Rattle.std.specs.Prelude.{◌≡◌, ℕ, ◌<◌, true, List, length, None, nat_lt, slice_set};
+ghost use Rattle.std.specs.Prelude.{◌≡◌, ℕ, ◌<◌, true, List, length, None};
 ghost use Rattle.theory.specs.Calls.{does, try_at, settles};
 ghost use Rattle.theory.specs.Cycles.{among, Cycle};
 ghost use Rattle.theory.specs.Draws.{is_of, shown, trail};
@@ -8,39 +8,12 @@ ghost use Rattle.draws.specs.Popping.{popping};
 ghost use Rattle.draws.specs.States.{state_of, held_of};
 
 use super::Draw;
-use crate::arrows::{height, settled};
 use crate::change::{raise_cycle, settle_way};
-use crate::trail::{comes_round, lowest_around};
+use crate::sight::Sight;
 use model::draw::{Pop, Tried};
 use model::fault::DrawFault;
 use model::plan::Plan;
 use model::source::ArrowSource;
-
-// Whether the list has a place for the next record.
-fn has_room(list: &[Pop], pops: usize) -> bool
-    ensures { result ≡ nat_lt pops (length list.now) }
-{
-    pops < list.len()
-}
-
-// Puts the record at the index that equals the pops so far.
-fn put(list: &mut [Pop], pops: usize, pop: Pop)
-    requires { pops < length list.old }
-    ensures { list.new ≡ slice_set list.old pops pop }
-{
-    list[pops] = pop;
-}
-
-// The record of a popped cycle, with the height before popping.
-fn noted(vertex: u16, before: u16, length: u16) -> Pop
-    ensures { result ≡ record { vertex = vertex; height = before; length = length } }
-{
-    Pop {
-        vertex,
-        height: before,
-        length,
-    }
-}
 
 impl Draw {
     // Pops the cycle that `on` is on, if the list has room for its record.
@@ -55,14 +28,23 @@ impl Draw {
         requires cycle { (c : List ℕ) × Cycle (shown (P.layout plan.now) (S.cells arrows.now) (state_of self.old).entries) c × (among on c ≡ true) }
         ensures { (c : List ℕ) → Cycle (shown (P.layout plan.now) (S.cells arrows.now) (state_of self.old).entries) c → among on c ≡ true → (held_of self.new list.new ≡ (popping (held_of self.old list.old) c).held) × (result ≡ (popping (held_of self.old list.old) c).answer) }
     {
-        if !has_room(list, self.pops) {
+        if self.pops >= list.len() {
             return Err(DrawFault::ListFull);
         }
-        let vertex = lowest_around(&self.entries, plan, arrows, on);
-        let height = height(&self.entries, vertex);
+        let sight = Sight {
+            entries: &self.entries,
+            plan,
+            arrows,
+        };
+        let vertex = sight.lowest_around(on);
+        let height = sight.height(vertex);
         let length = raise_cycle(&mut self.entries, plan, arrows, vertex);
-        let pop = noted(vertex, height, length);
-        put(list, self.pops, pop);
+        let pop = Pop {
+            vertex,
+            height,
+            length,
+        };
+        list[self.pops] = pop;
         self.pops += 1;
         Ok(Tried::Popped(pop))
     }
@@ -96,10 +78,15 @@ impl Draw {
         if v >= plan.size() {
             return Err(DrawFault::Vertex(v));
         }
-        if settled(&self.entries, v) {
+        let sight = Sight {
+            entries: &self.entries,
+            plan,
+            arrows,
+        };
+        if sight.settled(v) {
             return Err(DrawFault::AlreadySettled(v));
         }
-        match comes_round(&self.entries, plan, arrows, v) {
+        match sight.comes_round(v) {
             Some(on) => self.pop(plan, arrows, list, on),
             None => Ok(Tried::Settled(self.settle(plan, arrows, v))),
         }

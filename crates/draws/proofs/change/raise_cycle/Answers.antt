@@ -1,4 +1,4 @@
-use Rattle.std.proofs.Common.{◌+◌, vec_items, sym, ◌∙◌, arith}
+use Rattle.std.proofs.Common.{◌+◌, vec_items, sym, ◌∙◌}
 use Rattle.draws.proofs.Raising.{Raises, begins, not_out, finished, goes_on, ready}
 use Rattle.draws.proofs.change.raise_cycle.Goals as goal
 
@@ -11,15 +11,6 @@ loop-next-init g c =
     let raises : Raises p a start low low 0 start = λ rest cyc. begins _ _ _ rest cyc in
     (ready p a (g.P.Plan.sound c.args.plan.now) start c.requires.sized low c.requires.cycle low 0 start raises, raises)
 
-pub raise_at-requires : goal.raise_at-requires
-raise_at-requires g c = record {
-  within = omega (arith, c.loop-next.invariant.0.within, c.loop-next.invariant.0.long, c.loop-next.entries.list.ok.0);
-  under = c.loop-next.invariant.0.under;
-}
-
-pub overflow_add-count : goal.overflow_add-count
-overflow_add-count g c = omega (arith, c.loop-next.invariant.0.small, c.args.entries.now.few, c.args.entries.now.list.ok.0)
-
 pub returns-in_default : goal.returns-in_default
 returns-in_default g c rest cyc = absurd (not_out _ _ _ rest cyc _ _ _ (c.loop-next.invariant.1 rest cyc) (sym c.loop-next.invariant.0.shown_now ∙ sym c.in_default.ensures))
 
@@ -27,9 +18,6 @@ pub returns-then-next-low : goal.returns-then-next-low
 returns-then-next-low g c rest cyc =
     finished _ _ _ rest cyc _ _ _ (c.loop-next.invariant.1 rest cyc) c.loop-next.invariant.0.within _ c.raise_at.ensures
     c.in-Some.next (sym c.loop-next.invariant.0.shown_now ∙ sym c.in-Some.ensures) c.if-next-low.true
-
-pub loop-next-smaller : goal.loop-next-smaller
-loop-next-smaller g c = omega (arith, c.loop-next.invariant.0.small)
 
 pub loop-next-preserved : goal.loop-next-preserved
 loop-next-preserved g c =

@@ -4,8 +4,8 @@ use Rattle.draws.proofs.Settling.{begins, most, as_long, stops, falls, ends_dry,
 use Rattle.draws.proofs.Shown.{shown_to}
 use Rattle.draws.proofs.change.settle_way.Goals as goal
 
-pub loop-entries-init : goal.loop-entries-init
-loop-entries-init g c =
+pub loop-sight-init : goal.loop-sight-init
+loop-sight-init g c =
     let p = g.P.Plan.layout c.args.plan.now in
     let a = g.S.ArrowSource.cells c.args.arrows.now in
     let start = vec_items c.args.entries.now.list in
@@ -13,36 +13,36 @@ loop-entries-init g c =
     (ap (λ (n : ℕ). trail_on (shown p a start) (is_settled start) (suc n) [] c.args.start) c.requires.sized)
 
 pub settle_at-requires : goal.settle_at-requires
-settle_at-requires g c = omega (arith, c.loop-entries.invariant.low, as_long _ _ _ _ _ _ c.loop-entries.invariant, c.loop-entries.entries.list.ok.0)
+settle_at-requires g c = omega (arith, c.loop-sight.invariant.low, as_long _ _ _ _ _ _ c.loop-sight.invariant, c.loop-sight.entries.list.ok.0)
 
 pub overflow_add-count : goal.overflow_add-count
-overflow_add-count g c = omega (arith, most _ _ _ _ _ _ c.loop-entries.invariant, c.args.entries.now.few, c.args.entries.now.list.ok.0)
+overflow_add-count g c = omega (arith, most _ _ _ _ _ _ c.loop-sight.invariant, c.args.entries.now.few, c.args.entries.now.list.ok.0)
 
 pub returns-in_default : goal.returns-in_default
 returns-in_default g c =
     let p = g.P.Plan.layout c.args.plan.now in
     let a = g.S.ArrowSource.cells c.args.arrows.now in
     let start = vec_items c.args.entries.now.list in
-    let inv = c.loop-entries.invariant in
-    let none : shown p a start c.loop-entries.here ≡ None = sym (shown_still p a start _ _ _ _ inv) ∙ sym c.in_default.ensures in
-    let (after, count) = ends_dry _ _ _ _ _ _ inv (sym c.loop-entries-test.ensures) _ c.settle_at.ensures none in
+    let inv = c.loop-sight.invariant in
+    let none : shown p a start c.loop-sight.here ≡ None = sym (shown_still p a start _ _ _ _ inv) ∙ sym c.in_default.ensures in
+    let (after, count) = ends_dry _ _ _ _ _ _ inv (sym c.if-settled.ensures) _ c.settle_at.ensures none in
     record { after = after; count = count }
 
-pub loop-entries-smaller : goal.loop-entries-smaller
-loop-entries-smaller g c = falls _ _ _ _ _ _ c.loop-entries.invariant (sym c.loop-entries-test.ensures) _ c.settle_at.ensures
+pub loop-sight-smaller : goal.loop-sight-smaller
+loop-sight-smaller g c = falls _ _ _ _ _ _ c.loop-sight.invariant (sym c.if-settled.ensures) _ c.settle_at.ensures
 
-pub loop-entries-preserved : goal.loop-entries-preserved
-loop-entries-preserved g c =
+pub loop-sight-preserved : goal.loop-sight-preserved
+loop-sight-preserved g c =
     let p = g.P.Plan.layout c.args.plan.now in
     let a = g.S.ArrowSource.cells c.args.arrows.now in
     let start = vec_items c.args.entries.now.list in
-    let here = c.loop-entries.here in
-    let inv = c.loop-entries.invariant in
+    let here = c.loop-sight.here in
+    let inv = c.loop-sight.invariant in
     let some : shown p a start here ≡ Some c.in-Some.next = sym (shown_still p a start _ _ _ _ inv) ∙ sym c.in-Some.ensures in
     let low : c.in-Some.next < length start = omega (arith, shown_to p a (g.P.Plan.sound c.args.plan.now) start here c.in-Some.next some, c.requires.sized) in
-    goes_on _ _ _ _ _ _ inv (sym c.loop-entries-test.ensures) _ c.settle_at.ensures c.in-Some.next low some
+    goes_on _ _ _ _ _ _ inv (sym c.if-settled.ensures) _ c.settle_at.ensures c.in-Some.next low some
 
-pub returns : goal.returns
-returns g c =
-    let (after, count) = stops _ _ _ _ _ _ c.loop-entries.invariant c.requires.straight (sym c.loop-entries-test.ensures) in
+pub returns-then-settled : goal.returns-then-settled
+returns-then-settled g c =
+    let (after, count) = stops _ _ _ _ _ _ c.loop-sight.invariant c.requires.straight (sym c.if-settled.ensures) in
     record { after = after; count = count }

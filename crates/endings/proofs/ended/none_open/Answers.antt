@@ -1,14 +1,9 @@
-use Rattle.std.proofs.Common.{sym, ◌∙◌}
-use Rattle.std.proofs.lemmas.List.{at_drop_all}
-use Rattle.theory.specs.Calls.{none_open}
-use Rattle.endings.proofs.Writing.{open_step}
+use Rattle.std.proofs.Common.{rules, tests, sym, ◌∙◌}
+use Rattle.std.proofs.lemmas.Iterator.{YieldsList-from_slice}
+use Rattle.std.proofs.lemmas.Iterator.Search.{all_from_yields_List}
+use Rattle.model.specs.declared.draw.Entry.{Entry}
+use Rattle.endings.proofs.Writing.{none_open_is}
 use Rattle.endings.proofs.ended.none_open.Goals as goal
 
-pub returns-then-not-entry : goal.returns-then-not-entry
-returns-then-not-entry c = sym (open_step _ _ _ c.loop-entry-test.true c.if-not-entry.true) ∙ c.loop-entry.invariant
-
-pub loop-entry-preserved : goal.loop-entry-preserved
-loop-entry-preserved c = sym (open_step _ _ _ c.loop-entry-test.true c.if-not-entry.false) ∙ c.loop-entry.invariant
-
 pub returns : goal.returns
-returns c = sym (at_drop_all none_open c.args.entries.now c.loop-entry.entry-index c.loop-entry-test.false) ∙ c.loop-entry.invariant
+returns c = all_from_yields_List (λ (e : Entry). e.settled) _ _ _ c.all.ensures.ran (YieldsList-from_slice c.args.entries.now cc) (λ x b q k. search (rules, tests)) ∙ sym (none_open_is c.args.entries.now)

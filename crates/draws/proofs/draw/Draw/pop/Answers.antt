@@ -1,10 +1,9 @@
-use Rattle.std.proofs.Common.{◌≡◌, ℕ, ◌≤◌, true, List, [], ◌∷◌, vec_items, sym, ap, ◌∙◌, subst}
+use Rattle.std.proofs.Common.{◌≡◌, ℕ, ◌≤◌, true, List, [], ◌∷◌, vec_items, sym, subst}
 use Rattle.std.proofs.lemmas.Bool.{and_parts, eqb-true}
 use Rattle.model.specs.declared.draw.Entry.{Entry}
 use Rattle.theory.specs.Cycles.{among, Cycle}
-use Rattle.theory.specs.Draws.{height_of, shown, changed, higher}
-use Rattle.draws.specs.States.{held_of}
-use Rattle.draws.proofs.Tried.{record_is, pops_as, raised_low}
+use Rattle.theory.specs.Draws.{height_of, shown}
+use Rattle.draws.proofs.Tried.{raised_low}
 use Rattle.draws.proofs.draw.Draw.pop.Goals as goal
 
 pub invariant_of-self : goal.invariant_of-self
@@ -20,16 +19,3 @@ invariant_of-self g c = record { low = low c.requires.cycle }
         let cyc2 : Cycle (shown p a es) (c.lowest_around-vertex.result ∷ rest) = subst (λ (x : ℕ). Cycle (shown p a es) (x ∷ rest)) (sym (c.lowest_around-vertex.ensures m rest cyc on)) cyc in
         subst (λ (l : List Entry). height_of l v ≤ 4096) (sym (c.raise_cycle-length.ensures rest cyc2).0)
         (raised_low p a (g.P.Plan.sound c.args.plan.now) es (eqb-true _ _ (and_parts _ _ c.requires.of_plan).0) (c.lowest_around-vertex.result ∷ rest) cyc2 c.args.self.now.low v)
-
-pub returns : goal.returns
-returns g c [] cyc on = absurd cyc
-returns g c (m ∷ rest) cyc on =
-    let p = g.P.Plan.layout c.args.plan.now in
-    let a = g.S.ArrowSource.cells c.args.arrows.now in
-    let es = vec_items c.args.self.now.entries.list in
-    let vertex = c.lowest_around-vertex.result in
-    let low : vertex ≡ m = c.lowest_around-vertex.ensures m rest cyc on in
-    let cyc2 : Cycle (shown p a es) (vertex ∷ rest) = subst (λ (x : ℕ). Cycle (shown p a es) (x ∷ rest)) (sym low) cyc in
-    let (raised, long) = c.raise_cycle-length.ensures rest cyc2 in
-    pops_as (held_of c.args.self.now c.args.list.now) m rest _ _ _ (sym c.if-not-has_room.ensures) (raised ∙ ap (λ (x : ℕ). changed higher (x ∷ rest) es) low) c.put.ensures
-    (c.noted-pop.ensures ∙ record_is (height_of es) m rest vertex c.height-height.result c.raise_cycle-length.result low c.height-height.ensures long)
