@@ -1,78 +1,58 @@
--- How a line is cut, byte by byte. Assumes nothing.
-use Rattle.std.proofs.Common.{◌≡◌, ℕ, ◌+◌, ◌-◌, ◌<◌, ◌≤◌, Bool, true, false, cond, List, [], ◌∷◌, ◌++◌, length, get_or, take, drop, sym, refl, ap, ◌∙◌, subst, append_assoc, append-nil, arith, length-drop, Bor}
-use Rattle.std.proofs.lemmas.List.{map_push, at_drop_more, at_drop_all, take_all, take_more, get_or-drop}
-use Rattle.std.proofs.lemmas.Bool.{eq-eqb, ne_eqb}
-use Rattle.tokens.specs.Words.{blank, uncommented, whole, words_after, bytes}
+-- How a line is cut into its words. Assumes nothing.
+use Rattle.std.proofs.Common.{◌≡◌, ℕ, suc, ◌+◌, ◌≤◌, Bool, true, false, cond, not, eqb, ltb, List, [], ◌∷◌, ◌++◌, length, take, Some, None, Option, sym, refl, ap, ◌∙◌, append_assoc, append-nil, arith}
+use Rattle.std.proofs.lemmas.Bool.{ne_eqb}
+use Rattle.std.proofs.lemmas.Bool.Decides.{nat_tests}
+use Rattle.std.specs.List.{before_first, position_or_len, slice_split, onto_first, filter}
+use Rattle.std.specs.Option.{unwrap_or}
+use Rattle.tokens.specs.Words.{blank, uncommented, whole, words_after}
 
--- the comment begins at i
-pub at_comment : (line : List ℕ) (i : ℕ) → i < length line → get_or line i 0 ≡ 35 → take i line ++ uncommented (drop i line) ≡ take i line
-at_comment line i within mark =
-    ap (λ l. take i line ++ l) (at_drop_more uncommented line i 0 within ∙ ap (λ (d : Bool). cond d [] (get_or line i 0 ∷ uncommented (drop (i + 1) line))) (eq-eqb _ 35 mark))
-    ∙ append-nil (take i line)
+pub uncommented_is : (line : List ℕ) → before_first (λ b. eqb b 35) line ≡ uncommented line
+uncommented_is [] = refl
+uncommented_is (b ∷ line) = by (eqb b 35) (uncommented_is line)
+  where
+    by : (t : Bool) → before_first (λ b. eqb b 35) line ≡ uncommented line → take (cond (not t) (1 + position_or_len (λ b. eqb b 35) line) 0) (b ∷ line) ≡ cond t [] (b ∷ uncommented line)
+    by true is = refl
+    by false is =
+        let longer : 1 + position_or_len (λ b. eqb b 35) line ≡ suc (position_or_len (λ b. eqb b 35) line) = omega arith in
+        ap (λ (k : ℕ). take k (b ∷ line)) longer ∙ ap (λ (l : List ℕ). b ∷ l) is
 
--- the byte at i is no comment's
-pub no_comment : (line : List ℕ) (i : ℕ) → i < length line → (get_or line i 0 ≡ 35 → ⊥) → take i line ++ uncommented (drop i line) ≡ take (i + 1) line ++ uncommented (drop (i + 1) line)
-no_comment line i within other =
-    let rest = uncommented (drop (i + 1) line) in
-    ap (λ l. take i line ++ l) (at_drop_more uncommented line i 0 within ∙ ap (λ (d : Bool). cond d [] (get_or line i 0 ∷ rest)) (ne_eqb _ 35 other))
-    ∙ sym (append_assoc (take i line) (get_or line i 0 ∷ []) rest)
-    ∙ ap (λ l. l ++ rest) (sym (take_more line i 0 within))
+-- a place that may lack, and the end in its stead
+pub place_or_end : (p n : ℕ) (r : Option ℕ) → p ≤ n → r ≡ cond (ltb p n) (Some p) None → unwrap_or r n ≡ p
+place_or_end p n (Some k) low is = grind (arith, nat_tests)
+place_or_end p n None low is = grind (arith, nat_tests)
 
--- no comment was met
-pub all_text : (line : List ℕ) (i : ℕ) → length line ≤ i → take i line ++ uncommented (drop i line) ≡ line
-all_text line i past =
-    ap (λ l. take i line ++ l) (at_drop_all uncommented line i past) ∙ append-nil (take i line) ∙ take_all i line past
+abbrev pub some : List ℕ → Bool
+some w = not (eqb (length w) 0)
 
-pub whole_some : (w : List ℕ) → (length w ≡ 0 → ⊥) → whole w ≡ w ∷ []
-whole_some [] some = absurd (some refl)
-whole_some (b ∷ bs) some = refl
+-- the first part goes on with the word begun
+abbrev attached : List ℕ → List (List ℕ) → List (List ℕ)
+attached begun [] = begun ∷ []
+attached begun (w ∷ ws) = (begun ++ w) ∷ ws
 
--- a word that is pushed
-pub kept : (ws : List (Bor (List ℕ))) (w : Bor (List ℕ)) → (length w.now ≡ 0 → ⊥) → bytes (ws ++ w ∷ []) ≡ bytes ws ++ whole w.now
-kept ws w some = map_push (λ (x : Bor (List ℕ)). x.now) ws w ∙ ap (λ l. bytes ws ++ l) (sym (whole_some w.now some))
+one_whole : (w : List ℕ) (ws : List (List ℕ)) → whole w ++ filter some ws ≡ filter some (w ∷ ws)
+one_whole [] ws = refl
+one_whole (b ∷ w) ws = ap (λ (t : Bool). cond (not t) ((b ∷ w) ∷ filter some ws) (filter some ws)) (sym (ne_eqb (length (b ∷ w)) 0 (omega arith)))
 
--- the bytes of t from s up to i
-abbrev pub between : ℕ → ℕ → List ℕ → List ℕ
-between s i t = take (i - s) (drop s t)
+attached_none : (ws : List (List ℕ)) → filter some (attached [] ws) ≡ filter some ws
+attached_none [] = refl
+attached_none (w ∷ ws) = refl
 
--- the words ws, and those still to come where a word began at s, are those of the text
-abbrev pub Sofar : List (List ℕ) → ℕ → ℕ → List ℕ → Type 0
-Sofar ws s i t = ws ++ words_after (between s i t) (drop i t) ≡ words_after [] t
+attached_one : (begun : List ℕ) (b : ℕ) (ws : List (List ℕ)) → attached (begun ++ b ∷ []) ws ≡ attached begun (onto_first b ws)
+attached_one begun b [] = refl
+attached_one begun b (w ∷ ws) = ap (λ (v : List ℕ). v ∷ ws) (append_assoc begun (b ∷ []) w)
 
-pub moved : (ws vs : List (List ℕ)) (s r i : ℕ) (t : List ℕ) → vs ≡ ws → r ≡ s → Sofar ws s i t → Sofar vs r i t
-moved ws vs s r i t same begin sofar =
-    subst (λ (k : ℕ). Sofar vs k i t) (sym begin) (subst (λ (us : List (List ℕ)). Sofar us s i t) (sym same) sofar)
+parts_after : (begun bs : List ℕ) → filter some (attached begun (slice_split blank bs)) ≡ words_after begun bs
+parts_after begun [] = ap (λ (w : List ℕ). filter some (w ∷ [])) (append-nil begun) ∙ sym (one_whole begun []) ∙ append-nil (whole begun)
+parts_after begun (b ∷ bs) = by (blank b) (parts_after [] bs) (parts_after (begun ++ b ∷ []) bs)
+  where
+    by : (t : Bool) → filter some (attached [] (slice_split blank bs)) ≡ words_after [] bs → filter some (attached (begun ++ b ∷ []) (slice_split blank bs)) ≡ words_after (begun ++ b ∷ []) bs
+        → filter some (attached begun (cond t ([] ∷ slice_split blank bs) (onto_first b (slice_split blank bs)))) ≡ cond t (whole begun ++ words_after [] bs) (words_after (begun ++ b ∷ []) bs)
+    by true ends goes_on =
+        ap (λ (w : List ℕ). filter some (w ∷ slice_split blank bs)) (append-nil begun)
+        ∙ sym (one_whole begun (slice_split blank bs))
+        ∙ ap (λ (ws : List (List ℕ)). whole begun ++ ws) (sym (attached_none (slice_split blank bs)) ∙ ends)
+    by false ends goes_on = ap (filter some) (sym (attached_one begun b (slice_split blank bs))) ∙ goes_on
 
-one_longer : (s i : ℕ) (t : List ℕ) → s ≤ i → i < length t → between s i t ++ get_or t i 0 ∷ [] ≡ between s (i + 1) t
-one_longer s i t begun within =
-    let inside : i - s < length (drop s t) = omega (arith, length-drop s t) in
-    let here : get_or (drop s t) (i - s) 0 ≡ get_or t i 0 = get_or-drop s t (i - s) 0 ∙ ap (λ (k : ℕ). get_or t k 0) (omega arith) in
-    let long : i - s + 1 ≡ i + 1 - s = omega arith in
-    ap (λ (b : ℕ). between s i t ++ b ∷ []) (sym here) ∙ sym (take_more (drop s t) (i - s) 0 inside) ∙ ap (λ (k : ℕ). take k (drop s t)) long
-
--- the byte at i is no blank
-pub goes_on : (ws : List (List ℕ)) (s i : ℕ) (t : List ℕ) → s ≤ i → i < length t → blank (get_or t i 0) ≡ false → Sofar ws s i t → Sofar ws s (i + 1) t
-goes_on ws s i t begun within other sofar =
-    let rest = drop (i + 1) t in
-    let word = between s i t in
-    ap (λ (w : List ℕ). ws ++ words_after w rest) (sym (one_longer s i t begun within))
-    ∙ ap (λ (d : Bool). ws ++ cond d (whole word ++ words_after [] rest) (words_after (word ++ get_or t i 0 ∷ []) rest)) (sym other)
-    ∙ ap (λ (l : List (List ℕ)). ws ++ l) (sym (at_drop_more (words_after word) t i 0 within))
-    ∙ sofar
-
--- the byte at i is a blank
-pub ends_word : (ws : List (List ℕ)) (s i : ℕ) (t : List ℕ) → i < length t → blank (get_or t i 0) ≡ true → Sofar ws s i t → Sofar (ws ++ whole (between s i t)) (i + 1) (i + 1) t
-ends_word ws s i t within cut sofar =
-    let rest = drop (i + 1) t in
-    let word = between s i t in
-    let none : i + 1 - (i + 1) ≡ 0 = omega arith in
-    ap (λ (k : ℕ). (ws ++ whole word) ++ words_after (take k (drop (i + 1) t)) rest) none
-    ∙ append_assoc ws (whole word) (words_after [] rest)
-    ∙ ap (λ (d : Bool). ws ++ cond d (whole word ++ words_after [] rest) (words_after (word ++ get_or t i 0 ∷ []) rest)) (sym cut)
-    ∙ ap (λ (l : List (List ℕ)). ws ++ l) (sym (at_drop_more (words_after word) t i 0 within))
-    ∙ sofar
-
--- the text ends
-pub last_word : (ws : List (List ℕ)) (s : ℕ) (t : List ℕ) → Sofar ws s (length t) t → ws ++ whole (between s (length t) t) ≡ words_after [] t
-last_word ws s t sofar =
-    ap (λ (l : List (List ℕ)). ws ++ l) (sym (at_drop_all (words_after (between s (length t) t)) t (length t) (omega arith))) ∙ sofar
+-- the parts between the blanks, without the empty ones, are the words of a text
+pub parts_are : (bs : List ℕ) → filter some (slice_split blank bs) ≡ words_after [] bs
+parts_are bs = sym (attached_none (slice_split blank bs)) ∙ parts_after [] bs

@@ -3,7 +3,6 @@ use Rattle.std.proofs.Common.{◌≡◌, ℕ, Bool, true, false, cond, eqb, List
 use Rattle.std.proofs.ByRecursion.{All-append, All-push}
 use Rattle.std.proofs.lemmas.Bool.{eqb-false, ne_eqb}
 use Rattle.std.specs.List.{AllByRecursion}
-use Rattle.tokens.proofs.Cuts.{whole_some}
 use Rattle.tokens.specs.Words.{blank, uncommented, whole, words_after, words_of, Plain, Proper, spaced}
 
 abbrev Unmarked : ℕ → Type 0
@@ -52,6 +51,10 @@ one_word begun (b ∷ w) rest (here, plain) =
     ap (λ (t : Bool). cond t (whole begun ++ words_after [] (w ++ rest)) (words_after (begun ++ b ∷ []) (w ++ rest))) here.0
     ∙ one_word (begun ++ b ∷ []) w rest plain
     ∙ ap (λ (l : List ℕ). words_after l rest) (append_assoc begun (b ∷ []) w)
+
+whole_some : (w : List ℕ) → (length w ≡ 0 → ⊥) → whole w ≡ w ∷ []
+whole_some [] some = absurd (some refl)
+whole_some (b ∷ bs) some = refl
 
 words_spaced : (ws : List (List ℕ)) → AllByRecursion Proper ws → words_after [] (spaced ws) ≡ ws
 words_spaced [] proper = refl

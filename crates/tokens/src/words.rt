@@ -9,29 +9,15 @@ use std::alloc::{AllocError, Global};
 fn is_blank(b: u8) -> bool
     ensures { result ≡ blank b }
 {
-    b == b' ' || b == b'\t' || b == b'\r'
+    matches!(b, b' ' | b'\t' | b'\r')
 }
 
 // The part of the line before its comment.
 fn before_comment(line: &[u8]) -> &[u8]
     ensures { result.now ≡ uncommented line.now }
 {
-    for (i, b) in line.iter().enumerate() {
-        if *b == b'#' {
-            return &line[..i];
-        }
-    }
-    line
-}
-
-// Adds a word that ended, unless it is empty, as between two blanks.
-fn keep<'a>(out: &mut Vec<&'a [u8]>, word: &'a [u8]) -> Result<(), AllocError>
-    ensures { OnOk result (bytes out.new.items ≡ bytes out.old.items ++ whole word.now) }
-{
-    if !word.is_empty() {
-        out.push(word)?;
-    }
-    Ok(())
+    let end = line.iter().position(|b| *b == b'#').unwrap_or(line.len());
+    &line[..end]
 }
 
 // The words of the line, in order; none where it is blank or all comment.
@@ -41,15 +27,8 @@ pub fn words<'a>(heap: Global, line: &'a [u8]) -> Result<Vec<&'a [u8]>, AllocErr
     ensures proper { IfOk result (λ v. AllByRecursion Proper (bytes v.items)) }
     ensures back { IfOk result (λ v. (ws : List (List ℕ)) → AllByRecursion Proper ws → line.now ≡ spaced ws → bytes v.items ≡ ws) }
 {
-    let text = before_comment(line);
-    let mut out = Vec::new(heap);
-    let mut start = 0;
-    for i in 0..text.len() {
-        if is_blank(text[i]) {
-            keep(&mut out, &text[start..i])?;
-            start = i + 1;
-        }
-    }
-    keep(&mut out, &text[start..])?;
-    Ok(out)
+    before_comment(line)
+        .split(|b| is_blank(*b))
+        .filter(|word| !word.is_empty())
+        .collect(heap)
 }

@@ -1,12 +1,12 @@
-use Rattle.std.proofs.Common.{sym, ◌∙◌}
-use Rattle.tokens.proofs.Cuts.{at_comment, no_comment, all_text}
+use Rattle.std.proofs.Common.{ℕ, eqb, take, ap, ◌∙◌, rules}
+use Rattle.std.proofs.lemmas.Iterator.{YieldsList-from_slice}
+use Rattle.std.proofs.lemmas.Iterator.Search.{position_from_yields_List}
+use Rattle.std.proofs.lemmas.List.Sums.{prefix_len-le-length}
+use Rattle.tokens.proofs.Cuts.{uncommented_is, place_or_end}
 use Rattle.tokens.proofs.words.before_comment.Goals as goal
-
-pub returns-then-b-eq35 : goal.returns-then-b-eq35
-returns-then-b-eq35 c = sym (c.loop-i.invariant ∙ at_comment _ _ c.loop-i-test.true c.if-b-eq35.true)
-
-pub loop-i-preserved : goal.loop-i-preserved
-loop-i-preserved c = c.loop-i.invariant ∙ no_comment _ _ c.loop-i-test.true c.if-b-eq35.false
+use borrow.Author.Tests.{tests}
 
 pub returns : goal.returns
-returns c = sym (c.loop-i.invariant ∙ all_text _ _ c.loop-i-test.false)
+returns c =
+    let place = position_from_yields_List (λ b. eqb b 35) _ _ c.position.result c.position.ensures.ran (YieldsList-from_slice c.args.line.now cc) (λ x b q k. search (rules, tests)) in
+    ap (λ (n : ℕ). take n c.args.line.now) (c.unwrap_or-end.ensures ∙ place_or_end _ _ _ (prefix_len-le-length _ _) place) ∙ uncommented_is c.args.line.now

@@ -1,42 +1,27 @@
-use Rattle.std.proofs.Common.{◌≡◌, ℕ, [], length, vec_items, sym, ap, ◌∙◌, subst, arith}
-use Rattle.tokens.proofs.Cuts.{Sofar, moved, goes_on, ends_word, last_word}
-use Rattle.tokens.proofs.Laws.{all_proper, come_back}
+use Rattle.std.proofs.Common.{◌≡◌, [], IfOk, vec_items, sym, ap, ◌∙◌, subst, rules}
+use Rattle.std.proofs.lemmas.Iterator.Consumers.{map_from_collect, YieldsList-from_filter}
+use Rattle.std.proofs.lemmas.Iterator.Splits.{YieldsList-from_slice_split}
+use Rattle.std.proofs.lemmas.Result.{IfOk-weaker}
 use Rattle.std.specs.List.{AllByRecursion}
+use Rattle.tokens.proofs.Cuts.{some, parts_are}
+use Rattle.tokens.proofs.Laws.{all_proper, come_back}
 use Rattle.tokens.proofs.words.words.Goals as goal
-use Rattle.tokens.proofs.words.words.Goals.{then-is_blank+in_ok-keep, else-is_blank}
-use Rattle.tokens.specs.Words.{bytes, words_after, words_of, Proper}
+use Rattle.tokens.specs.Words.{blank, words_after, words_of, bytes, Proper}
+use borrow.Author.Tests.{tests}
 
-pub loop-i-preserved : goal.loop-i-preserved
-loop-i-preserved c =
-    let text = c.before_comment-text.result.now in
-    let ws = bytes (vec_items c.loop-i.out) in
-    let start = c.loop-i.start in
-    let i = c.loop-i.i in
-    elim c.if-is_blank.branch [
-      | then-is_blank+in_ok-keep w ↦ (
-        omega (arith, w.start-is),
-        moved _ _ _ _ _ text (ap (λ v. bytes (vec_items v)) w.out-is ∙ w.in_ok-keep.ensures) w.start-is
-            (ends_word ws start i text c.loop-i-test.true (sym w.if-is_blank.ensures) c.loop-i.invariant.1),
-      )
-      | else-is_blank w ↦ (
-        omega (arith, w.start-is),
-        moved _ _ _ _ _ text (ap (λ v. bytes (vec_items v)) w.out-is) w.start-is
-            (goes_on ws start i text c.loop-i.invariant.0 c.loop-i-test.true (sym w.if-is_blank.ensures) c.loop-i.invariant.1),
-      )
-    ]
-
--- the words that were kept are those of the line
-all_cut : (c : goal.In_ok-keep-2) → bytes (vec_items c.keep-2.new.out) ≡ words_of c.args.line.now
-all_cut c =
-    let text = c.before_comment-text.result.now in
-    let ws = bytes (vec_items c.loop-i.out) in
-    let here : c.loop-i.i ≡ length text = omega arith in
-    let sofar = subst (λ (i : ℕ). Sofar ws c.loop-i.start i text) here c.loop-i.invariant.1 in
-    c.in_ok-keep-2.ensures ∙ last_word ws c.loop-i.start text sofar ∙ ap (words_after []) c.before_comment-text.ensures
+-- what the chain gives
+cut : (c : goal.After-collect) → IfOk c.collect.result (λ v. bytes (vec_items v) ≡ words_of c.args.line.now)
+cut c =
+    IfOk-weaker c.collect.result _ _
+    (λ v is. is ∙ parts_are c.before_comment.result.now ∙ ap (words_after []) c.before_comment.ensures)
+    (map_from_collect c.collect.result c.collect.ensures.ran
+    (YieldsList-from_filter _ some
+    (YieldsList-from_slice_split _ blank c.before_comment.result.now (cc) (cc) (cc) (λ x b q k. search rules))
+    (cc) (λ x b q k. search (rules, tests))))
 
 pub returns : goal.returns
 returns c = record {
-  are = all_cut c;
-  proper = subst (AllByRecursion Proper) (sym (all_cut c)) (all_proper c.args.line.now);
-  back = λ ws proper is. all_cut c ∙ come_back c.args.line.now ws proper is;
+  are = cut c;
+  proper = IfOk-weaker c.collect.result _ _ (λ v is. subst (AllByRecursion Proper) (sym is) (all_proper c.args.line.now)) (cut c);
+  back = IfOk-weaker c.collect.result _ _ (λ v is ws proper spaced. is ∙ come_back c.args.line.now ws proper spaced) (cut c);
 }

@@ -1,9 +1,0 @@
-use Rattle.std.proofs.Common.{sym, ap, ◌∙◌}
-use Rattle.std.proofs.lemmas.Bool.{eqb-false}
-use Rattle.tokens.proofs.Cuts.{kept}
-use Rattle.tokens.proofs.words.keep.Goals as goal
-use Rattle.tokens.specs.Words.{bytes}
-
-pub returns-in_ok-push : goal.returns-in_ok-push
-returns-in_ok-push c =
-    ap bytes c.in_ok-push.ensures.items ∙ kept _ _ (eqb-false _ 0 (sym c.if-not-is_empty.ensures))
