@@ -1,3 +1,4 @@
+pub mod Answers
 pub mod Arrows
 pub mod Caps
 pub mod Depths
@@ -11,3 +12,4 @@ pub mod Seeds
 pub mod Trees
 pub mod Walks
 pub mod Ways
+pub mod Words

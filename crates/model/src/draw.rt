@@ -1,5 +1,8 @@
 // What a draw is made of: its entries, the records of popped cycles, and what its calls answer.
-ghost use Rattle.std.specs.Prelude.{◌≤◌, vec_len};
+ghost use Rattle.std.specs.Prelude.{◌≤◌, vec_len, Some};
+ghost use Rattle.model.specs.Words.{pop_words, tried_words, stop_word};
+
+use std::fmt;
 
 // What a draw keeps of one vertex.
 #[derive(Clone, Copy, PartialEq, Eq, Debug)]
@@ -16,6 +19,14 @@ pub struct Pop {
     pub length: u16,
 }
 
+impl fmt::Display for Pop {
+    ghost output = { λ p. Some (pop_words p) };
+
+    fn fmt<W: fmt::Write>(&self, f: &mut fmt::Formatter<W>) -> fmt::Result {
+        write!(f, "{} {} {}", self.vertex, self.height, self.length)
+    }
+}
+
 // What a try did.
 #[derive(Clone, Copy, PartialEq, Eq, Debug)]
 pub enum Tried {
@@ -23,6 +34,17 @@ pub enum Tried {
     Popped(Pop),
     // It did not: so many vertices were settled.
     Settled(u16),
+}
+
+impl fmt::Display for Tried {
+    ghost output = { λ t. Some (tried_words t) };
+
+    fn fmt<W: fmt::Write>(&self, f: &mut fmt::Formatter<W>) -> fmt::Result {
+        match self {
+            Tried::Popped(pop) => write!(f, "popped {pop}"),
+            Tried::Settled(count) => write!(f, "settled {count}"),
+        }
+    }
 }
 
 // Why a run stopped.
@@ -34,6 +56,18 @@ pub enum Stop {
     Spent,
     // The list of records has no room for the next.
     Full,
+}
+
+impl fmt::Display for Stop {
+    ghost output = { λ why. Some (stop_word why) };
+
+    fn fmt<W: fmt::Write>(&self, f: &mut fmt::Formatter<W>) -> fmt::Result {
+        f.write_str(match self {
+            Self::Ended => "ended",
+            Self::Spent => "spent",
+            Self::Full => "full",
+        })
+    }
 }
 
 // One entry for each vertex of a plan.

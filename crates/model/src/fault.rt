@@ -1,6 +1,11 @@
 // Why a call on a plan or a draw is refused. Every fault has a number, a layer and a place.
-ghost use Rattle.std.specs.Prelude.{◌≡◌};
+ghost use Rattle.std.specs.Prelude.{◌≡◌, Some};
 ghost use Rattle.model.specs.Faults.{number_of, layer_of, place_of};
+ghost use Rattle.model.specs.Words.{layer_word, fault_words};
+ghost use Rattle.model.specs.declared.fault.DrawFault.TheVariants.{NoMemory};
+
+use std::alloc::{AllocError, AllocFailed};
+use std::fmt;
 
 // Which part of the library found the fault.
 #[derive(Clone, Copy, PartialEq, Eq, Debug)]
@@ -8,6 +13,18 @@ pub enum Layer {
     Record,
     Filing,
     Draw,
+}
+
+impl fmt::Display for Layer {
+    ghost output = { λ l. Some (layer_word l) };
+
+    fn fmt<W: fmt::Write>(&self, f: &mut fmt::Formatter<W>) -> fmt::Result {
+        f.write_str(match self {
+            Self::Record => "record",
+            Self::Filing => "filing",
+            Self::Draw => "draw",
+        })
+    }
 }
 
 #[derive(Clone, Copy, PartialEq, Eq, Debug)]
@@ -75,5 +92,30 @@ impl DrawFault {
             DrawFault::Vertex(v) | DrawFault::AlreadySettled(v) | DrawFault::Dry(v) => *v as usize,
             _ => 0,
         }
+    }
+}
+
+// Its number, layer and place.
+impl fmt::Display for DrawFault {
+    ghost output = { λ e. Some (fault_words e) };
+
+    fn fmt<W: fmt::Write>(&self, f: &mut fmt::Formatter<W>) -> fmt::Result {
+        write!(f, "{} {} {}", self.number(), self.layer(), self.place())
+    }
+}
+
+impl From<AllocError> for DrawFault {
+    ghost from_gives = { λ _ e. e ≡ NoMemory };
+
+    fn from(_refused: AllocError) -> DrawFault {
+        DrawFault::NoMemory
+    }
+}
+
+impl<T: Drop> From<AllocFailed<T>> for DrawFault {
+    ghost from_gives = { λ _ e. e ≡ NoMemory };
+
+    fn from(_refused: AllocFailed<T>) -> DrawFault {
+        DrawFault::NoMemory
     }
 }
