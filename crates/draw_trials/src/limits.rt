@@ -8,6 +8,7 @@ use plans::complete::Complete;
 use plans::table::Table;
 use sources::cap::Cap;
 use sources::filed::Filed;
+use sources::listing::Listing;
 use sources::seeded::Seeded;
 use std::test::Fail;
 
@@ -68,9 +69,7 @@ fn no_room_and_no_budget(rt: HostRuntime) -> Result<(), Fail> {
     let plan = Complete::new(3, 0)?;
     let ports = [1, 1, 1, 1].to_vec(rt.alloc())?;
     let arrows = Filed {
-        size: 3,
-        root: 0,
-        depth: 2,
+        listing: Listing::of(&plan, 2),
         ports,
     };
     let mut draw = Draw::open(&plan, rt.alloc())?;

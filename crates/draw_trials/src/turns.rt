@@ -8,6 +8,7 @@ use orders::filed::FiledOrder;
 use orders::walk::Walk;
 use plans::complete::Complete;
 use sources::filed::Filed;
+use sources::listing::Listing;
 use std::alloc::Global;
 use std::test::Fail;
 
@@ -25,11 +26,13 @@ fn pop(vertex: u16, height: u16, length: u16) -> Pop {
     }
 }
 
-fn filed(heap: Global, size: u16, depth: u16, cells: &[u16]) -> Result<Filed, Fail> {
+fn filed(heap: Global, size: u16, depth: u16, cells: &[u16]) -> Result<Filed<Vec<u16>>, Fail> {
     Ok(Filed {
-        size,
-        root: 0,
-        depth,
+        listing: Listing {
+            size,
+            root: 0,
+            depth,
+        },
         ports: cells.to_vec(heap)?,
     })
 }

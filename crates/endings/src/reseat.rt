@@ -13,18 +13,18 @@ use model::draw::Entry;
 use model::fault::DrawFault;
 use model::plan::Plan;
 use model::tree::TreeCheck;
-use sources::cell::place;
-use sources::depth::{cell_count, cells_fault};
-use sources::filed::Lent;
+use sources::depth::check_cells;
+use sources::filed::Filed;
+use sources::listing::Listing;
 use trees::check::check_tree;
 
-fn room_fault(size: u16, depth: u16, cells: usize, ports: usize) -> Option<DrawFault>
-    ensures { result ≡ room_fault size depth cells ports }
+fn room_fault(listing: &Listing, cells: usize, ports: usize) -> Option<DrawFault>
+    ensures { result ≡ room_fault listing.now.size listing.now.depth cells ports }
 {
-    if let Some(fault) = cells_fault(size, depth) {
+    if let Err(fault) = check_cells(listing.size, listing.depth) {
         return Some(fault);
     }
-    if cells < cell_count(size, depth) || ports < size as usize {
+    if cells < listing.count() || ports < listing.size as usize {
         return Some(DrawFault::Short);
     }
     None
@@ -40,10 +40,8 @@ fn is_tree<P: Plan>(plan: &P, ports: &[u16]) -> bool
 fn end_fault_over<P: Plan>(draw: &Draw, plan: &P, cells: &[u16], depth: u16) -> Option<DrawFault>
     ensures { result ≡ end_fault (P.layout plan.now) (cells_of (P.layout plan.now) depth cells.now) (state_of draw.now) }
 {
-    let arrows = Lent {
-        size: plan.size(),
-        root: plan.root(),
-        depth,
+    let arrows = Filed {
+        listing: Listing::of(plan, depth),
         ports: cells,
     };
     end_fault(draw, plan, &arrows)
@@ -58,13 +56,14 @@ fn reseat_fault<P: Plan>(
 ) -> Option<DrawFault>
     ensures { result ≡ reseat_fault (P.layout plan.now) (state_of draw.now) depth cells.now ports.now }
 {
-    if let Some(fault) = room_fault(plan.size(), depth, cells.len(), ports.len()) {
+    let listing = Listing::of(plan, depth);
+    if let Some(fault) = room_fault(&listing, cells.len(), ports.len()) {
         return Some(fault);
     }
     if !draw.is_of(plan) {
         return Some(DrawFault::OtherPlan);
     }
-    let front = &cells[..cell_count(plan.size(), depth)];
+    let front = &cells[..listing.count()];
     if let Some(fault) = end_fault_over(draw, plan, front, depth) {
         return Some(fault);
     }
@@ -88,7 +87,7 @@ fn seat<P: Plan>(draw: &Draw, plan: &P, cells: &mut [u16], depth: u16, ports: &[
     ensures { cells.new ≡ seat (P.layout plan.now) depth (height_of (state_of draw.now).entries) ports.now v cells.old }
 {
     let index = height(draw.entries(), v);
-    if let Some(at) = place(plan.size(), plan.root(), depth, v, index) {
+    if let Some(at) = Listing::of(plan, depth).place(v, index) {
         cells[at] = ports[v as usize];
     }
 }

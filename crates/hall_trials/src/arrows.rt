@@ -2,19 +2,25 @@
 use model::fault::DrawFault;
 use model::source::ArrowSource;
 use sources::cap::Cap;
-use sources::depth::{cells_fault, depth_fault};
-use sources::filed::{Filed, Lent};
+use sources::depth::{check_cells, check_depth};
+use sources::filed::Filed;
+use sources::listing::Listing;
 use sources::seeded::Seeded;
 use std::test::Fail;
 
-// Three vertices, the root in the middle, and a list that ends one port early.
+// Three vertices, the root in the middle.
+const THREE: Listing = Listing {
+    size: 3,
+    root: 1,
+    depth: 2,
+};
+
+// The list ends one port early.
 #[test]
 fn filed_places(rt: HostRuntime) -> Result<(), Fail> {
     let ports = Vec::from_slice(rt.alloc(), &[10, 11, 12])?;
     let filed = Filed {
-        size: 3,
-        root: 1,
-        depth: 2,
+        listing: THREE,
         ports,
     };
     for (v, index, port) in [
@@ -35,11 +41,9 @@ fn filed_places(rt: HostRuntime) -> Result<(), Fail> {
 // The same list, lent.
 #[test]
 fn lent_places(rt: HostRuntime) {
-    let lent = Lent {
-        size: 3,
-        root: 1,
-        depth: 2,
-        ports: &[10, 11, 12],
+    let lent = Filed {
+        listing: THREE,
+        ports: &[10, 11, 12][..],
     };
     for (v, index, port) in [
         (0, 1, Some(11)),
@@ -62,9 +66,9 @@ fn depth_limits(rt: HostRuntime) {
         (1024, 4, None),
         (1024, 5, Some(DrawFault::Limit)),
     ] {
-        assert_eq!(rt; cells_fault(size, depth), fault);
+        assert_eq!(rt; check_cells(size, depth).err(), fault);
     }
-    assert_eq!(rt; depth_fault(4096), None);
+    assert_eq!(rt; check_depth(4096), Ok(()));
 }
 
 // The words of seed 0 at vertex 0 are E220A8397B1DCDAF, 6E789E6AA1B965F4 and 06C45D188009454F.

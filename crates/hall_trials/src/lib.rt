@@ -1,4 +1,4 @@
-// Examples and limits of plans, arrows and orders. They stand apart, since a crate with tests is proved twice.
+// Examples and limits of plans, arrows, orders and words. They stand apart, since a crate with tests is proved twice.
 
 #![tactic(auto)]
 
@@ -8,3 +8,5 @@ mod arrows;
 mod halls;
 #[cfg(test)]
 mod picking;
+#[cfg(test)]
+mod words;

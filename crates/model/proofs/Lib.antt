@@ -1,3 +1,4 @@
+pub mod Answers
 pub mod Lowest
 pub mod Pigeons
 pub mod Reaching

@@ -1,5 +1,6 @@
 -- One more link: what a table keeps of its links and spans. Assumes nothing.
-use Rattle.std.proofs.Common.{◌≡◌, ℕ, ◌+◌, ◌-◌, ◌<◌, ◌≤◌, Bool, true, false, cond, eqb, List, [], ◌∷◌, ◌++◌, map, length, get_or, take, drop, set, None, vec_items, filter, sym, refl, ap, ◌∙◌, subst, ⊎_elim, arith}
+use Rattle.std.proofs.Common.{◌≡◌, ℕ, ◌+◌, ◌-◌, ◌<◌, ◌≤◌, Bool, true, false, cond, eqb, List, [], ◌∷◌, ◌++◌, map, length, get_or, take, drop, set, Ok, Result, vec_items, filter, sym, refl, ap, ◌∙◌, subst, ⊎_elim, arith}
+use Rattle.model.specs.Answers.{answered}
 use Rattle.plans.proofs.Spanning.{leads_count}
 use Rattle.plans.specs.Cablings.{Cabling, end_of, last_start, leads_from, link_fault, no_link, starts_at}
 use Rattle.plans.specs.Spans.{BareAbove, Ended, EndsLast, Leads, Lies, Narrow, RisingStarts, grown, span_at, no_span}
@@ -7,6 +8,7 @@ use Rattle.plans.specs.Tables.{cabling_of}
 use Rattle.plans.specs.declared.table.Link.{Link}
 use Rattle.plans.specs.declared.table.Span.{Span}
 use Rattle.plans.specs.declared.table.Table.{Table}
+use Rattle.model.specs.declared.fault.DrawFault.{DrawFault}
 use Rattle.std.proofs.lemmas.List.Elements.{filter-append}
 use Rattle.std.proofs.lemmas.List.{append-nil, drop-append-le, get_or_append_left, get_or_push, get_or-set_other, get_or-set_same, length-drop, length_push, map-append, map_push, take_all, take-append-le}
 use Rattle.std.proofs.lemmas.Bool.{cases_eq, cases_lt, cond-false, cond-true, eq-eqb, ne_eqb}
@@ -20,7 +22,7 @@ pub record Taken (c : Cabling) (u w : ℕ) : Type 0 where
   pub rises : last_start c.links ≤ u
   pub free : length (leads_from c.links u) < 1023
 
-pub taken : (c : Cabling) (u w : ℕ) → link_fault c u w ≡ None → Taken c u w
+pub taken : (c : Cabling) (u w : ℕ) → ◌≡◌ {A = Result (Unit {0}) DrawFault} (Ok tt) (answered (link_fault c u w) tt) → Taken c u w
 taken c u w fine = record {
   room = grind (arith, nat_tests);
   start_in = grind (arith, nat_tests);

@@ -1,13 +1,9 @@
--- What a call that may be refused answers. Assumes nothing.
-use Rattle.std.specs.Prelude.{◌≡◌, ◌⊎◌, Some, None, Ok, Err, Option, Result}
+-- What making a plan answers. Assumes nothing.
+use Rattle.std.specs.Prelude.{◌≡◌, ◌⊎◌, None, Err, Option, Result}
+use Rattle.model.specs.Answers.{answered}
 use Rattle.model.specs.declared.fault.DrawFault.{DrawFault}
 use Rattle.model.specs.declared.fault.DrawFault.TheVariants.{NoMemory}
 use Rattle.std.specs.Result.{result_map_both}
-
--- the value, unless there is a fault
-abbrev pub answered : {A E : Type 0} → Option E → A → Result A E
-answered None x = Ok x
-answered (Some e) x = Err e
 
 -- the answer with the value that was made seen as f shows it
 abbrev pub made_as : {A B E : Type 0} → (A → B) → Result A E → Result B E

@@ -3,7 +3,7 @@ use Rattle.std.specs.Prelude.{ℕ, ◌-◌, Bool, cond, ◌&&◌, List, [], ◌�
 use Rattle.model.specs.Layouts.{Layout, from_ports}
 use Rattle.model.specs.declared.fault.DrawFault.{DrawFault}
 use Rattle.model.specs.declared.fault.DrawFault.TheVariants as fault
-use Rattle.plans.specs.Answers.{answered}
+use Rattle.model.specs.Answers.{answered}
 use Rattle.plans.specs.declared.table.Link.{Link}
 
 -- the size, the root and the links in the order in which they were told

@@ -1,11 +1,12 @@
 // The complete plan: from every vertex one port to each of the others.
 ghost use Rattle.std.specs.Prelude.{◌≡◌, ℕ, ◌+◌, ◌-◌, ◌<◌, ◌≤◌, if◌then◌else◌, nat_lt};
-ghost use Rattle.plans.specs.Answers.{answered, made_as};
+ghost use Rattle.model.specs.Answers.{answered};
+ghost use Rattle.plans.specs.Answers.{made_as};
 ghost use Rattle.plans.specs.Completes.{complete};
 ghost use Rattle.plans.specs.Limits.{plan_fault};
 ghost use Rattle.plans.specs.Soundness.{complete_sound};
 
-use crate::limits::plan_fault;
+use crate::limits::check_limits;
 use model::fault::DrawFault;
 use model::plan::Plan;
 
@@ -23,10 +24,8 @@ impl Complete {
     pub fn new(size: u16, root: u16) -> Result<Complete, DrawFault>
         ensures { made_as {B = ℕ × ℕ} (λ p. (p.size, p.root)) result ≡ answered (plan_fault size root) (size, root) }
     {
-        match plan_fault(size, root) {
-            Some(fault) => Err(fault),
-            None => Ok(Complete { size, root }),
-        }
+        check_limits(size, root)?;
+        Ok(Complete { size, root })
     }
 }
 

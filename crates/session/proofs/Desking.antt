@@ -1,6 +1,7 @@
 -- What commands do where what they need is there. Assumes nothing.
-use Rattle.std.proofs.Common.{◌≡◌, ℕ, ◌⊎◌, List, Some, Ok, Err, vec_items, Result, sym, refl, ap, ◌∙◌, subst, inl, inr}
+use Rattle.std.proofs.Common.{◌≡◌, ℕ, ◌⊎◌, List, Some, Ok, Err, vec_items, Vec, Result, sym, refl, ap, ◌∙◌, subst, inl, inr}
 use Rattle.std.specs.Option.{option_map}
+use Rattle.std.specs.declared.alloc.Global.{Global}
 use Rattle.model.specs.Layouts.{Layout}
 use Rattle.model.specs.declared.fault.DrawFault.{DrawFault}
 use Rattle.model.specs.declared.fault.DrawFault.TheVariants.{NoMemory}
@@ -56,20 +57,20 @@ module _ (s : Session) (q : AnyPlan) (b : AnyArrows) (x : Running) (is_q : plan_
 
   -- ---- reseating
 
-  module _ (f : Filed) (is_f : b ≡ source.Filed f) (ports : List ℕ) where
+  module _ (f : Filed (Vec ℕ Global)) (is_f : b ≡ source.Filed f) (ports : List ℕ) where
     abbrev pub given : Result (Unit {0}) DrawFault × List ℕ
-    given = reseats_to (any_layout q) (drawing_of x).held.draw f.depth (vec_items f.ports) ports
+    given = reseats_to (any_layout q) (drawing_of x).held.draw f.listing.depth (vec_items f.ports) ports
 
-    as_given : reseated_desk (desk_of s) (planned_of q) f.size f.root f.depth given ≡ reseats (desk_of s) ports
+    as_given : reseated_desk (desk_of s) (planned_of q) f.listing.size f.listing.root f.listing.depth given ≡ reseats (desk_of s) ports
     as_given =
-        ap (λ (l : Layout). reseated_desk (desk_of s) (planned_of q) f.size f.root f.depth (reseats_to l (drawing_of x).held.draw f.depth (vec_items f.ports) ports)) (same_layout q)
+        ap (λ (l : Layout). reseated_desk (desk_of s) (planned_of q) f.listing.size f.listing.root f.listing.depth (reseats_to l (drawing_of x).held.draw f.listing.depth (vec_items f.ports) ports)) (same_layout q)
         ∙ ap (λ y. reseats_arrows (desk_of s) (planned_of q) (arrowed_of y) (drawing_of x) ports) (sym is_f)
         ∙ sym (drawn (λ p a y. reseats_arrows (desk_of s) p a y ports))
 
     pub renews : (new : Renewal) → Renewed (any_layout q) f (drawing_of x) s.room ports new → Renews (desk_of s) ports (Ok new)
     renews new ren =
-        (λ i. (Ok (said.cells (ren.shown i)), new_drawing (new_arrows (desk_of s) (filed (ren.same_size i) (ren.same_root i) (ren.same_depth i) (vec_items new.filed.ports))) (fresh i)))
-        ∙ ap (reseated_desk (desk_of s) (planned_of q) f.size f.root f.depth) (sym ren.cells) ∙ as_given
+        (λ i. (Ok (said.cells (ren.shown i)), new_drawing (new_arrows (desk_of s) (filed (ren.same_listing i).size (ren.same_listing i).root (ren.same_listing i).depth (vec_items new.filed.ports))) (fresh i)))
+        ∙ ap (reseated_desk (desk_of s) (planned_of q) f.listing.size f.listing.root f.listing.depth) (sym ren.cells) ∙ as_given
       where
         fresh : drawing_of new.running ≡ begun (layout_of (planned_of q)) s.room
         fresh = ren.fresh ∙ ap (λ (l : Layout). begun l s.room) (same_layout q)
@@ -77,7 +78,7 @@ module _ (s : Session) (q : AnyPlan) (b : AnyArrows) (x : Running) (is_q : plan_
     at_fault : (e : DrawFault) → (given.0 ≡ Err e) ⊎ (e ≡ NoMemory) → Renews (desk_of s) ports (Err (refusal.Fault e))
     at_fault e (inl is) = inl (by given is ∙ as_given)
       where
-        by : (x2 : Result (Unit {0}) DrawFault × List ℕ) → x2.0 ≡ Err e → (Err (refusal.Fault e), desk_of s) ≡ reseated_desk (desk_of s) (planned_of q) f.size f.root f.depth x2
+        by : (x2 : Result (Unit {0}) DrawFault × List ℕ) → x2.0 ≡ Err e → (Err (refusal.Fault e), desk_of s) ≡ reseated_desk (desk_of s) (planned_of q) f.listing.size f.listing.root f.listing.depth x2
         by (Ok u, cells) never = cc
         by (Err e2, cells) same = let h : e ≡ e2 = cc in ap (λ (y : DrawFault). (Err (refusal.Fault y), desk_of s)) h
     at_fault e (inr none) = inr (ap (λ y. refusal.Fault y) none)

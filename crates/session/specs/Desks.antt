@@ -94,7 +94,7 @@ place_of (hall.Planned p None) = ready (planned_of p)
 place_of (hall.Planned p (Some q)) = filing (planned_of p) (pending_of q)
 
 abbrev pub arrowed_of : AnyArrows → Arrowed
-arrowed_of (source.Filed f) = filed f.size f.root f.depth (vec_items f.ports)
+arrowed_of (source.Filed f) = filed f.listing.size f.listing.root f.listing.depth (vec_items f.ports)
 arrowed_of (source.Seeded c) = seeded c.below.seed c.depth
 
 abbrev pub desk_of : Session → Desk

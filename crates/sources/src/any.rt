@@ -8,7 +8,7 @@ use model::source::ArrowSource;
 
 #[derive(Drop)]
 pub enum AnyArrows {
-    Filed(Filed),
+    Filed(Filed<Vec<u16>>),
     Seeded(Cap<Seeded>),
 }
 

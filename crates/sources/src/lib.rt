@@ -4,7 +4,7 @@
 
 pub mod any;
 pub mod cap;
-pub mod cell;
 pub mod depth;
 pub mod filed;
+pub mod listing;
 pub mod seeded;

@@ -1,5 +1,6 @@
 // What a table answers, and how it takes a link.
 ghost use Rattle.std.specs.Prelude.{◌≡◌, ◌<◌, length, vec_len, OnErr, slice_index_or};
+ghost use Rattle.model.specs.Answers.{answered};
 ghost use Rattle.plans.specs.Answers.{made_as, MadeOrNoMemory};
 ghost use Rattle.plans.specs.Cablings.{cabled, leads_from, last_start, may_follow, link_fault, linked, no_link, unlinked};
 ghost use Rattle.plans.specs.Limits.{plan_fault};
@@ -8,7 +9,7 @@ ghost use Rattle.plans.specs.Spans.{span_at, grown};
 ghost use Rattle.plans.specs.Tables.{cabling_of};
 
 use super::{Link, Span, Table};
-use crate::limits::plan_fault;
+use crate::limits::check_limits;
 use model::fault::DrawFault;
 use model::plan::Plan;
 use std::alloc::Global;
@@ -45,16 +46,10 @@ impl Table {
     pub fn new(heap: Global, size: u16, root: u16) -> Result<Table, DrawFault>
         ensures { MadeOrNoMemory (plan_fault size root) (unlinked size root) (made_as cabling_of result) }
     {
-        if let Some(fault) = plan_fault(size, root) {
-            return Err(fault);
-        }
-        let Ok(links) = Vec::with_capacity(heap, MAX_LINKS) else {
-            return Err(DrawFault::NoMemory);
-        };
+        check_limits(size, root)?;
+        let links = Vec::with_capacity(heap, MAX_LINKS)?;
         let mut spans = Vec::new(heap);
-        if spans.resize(size as usize, NO_SPAN).is_err() {
-            return Err(DrawFault::NoMemory);
-        }
+        spans.resize(size as usize, NO_SPAN)?;
         Ok(Table {
             size,
             root,
@@ -113,15 +108,15 @@ impl Table {
             & ((to < self.size) & ((self.last_start() <= from) & (self.ports_at(from) < 1023)))
     }
 
-    fn link_fault(&self, from: u16, to: u16) -> Option<DrawFault>
-        ensures { result ≡ link_fault (cabling_of self.now) from to }
+    fn check_link(&self, from: u16, to: u16) -> Result<(), DrawFault>
+        ensures { result ≡ answered (link_fault (cabling_of self.now) from to) tt }
     {
         if self.links.len() >= MAX_LINKS {
-            Some(DrawFault::Limit)
+            Err(DrawFault::Limit)
         } else if self.may_follow(from, to) {
-            None
+            Ok(())
         } else {
-            Some(DrawFault::Link)
+            Err(DrawFault::Link)
         }
     }
 
@@ -130,9 +125,7 @@ impl Table {
         ensures answer { (result, cabling_of self.new) ≡ linked (cabling_of self.old) from to }
         ensures same { OnErr result (self.new ≡ self.old) }
     {
-        if let Some(fault) = self.link_fault(from, to) {
-            return Err(fault);
-        }
+        self.check_link(from, to)?;
         let end = self.links.len() as u16;
         let span = self.span(from).grown(end);
         self.spans[from as usize] = span;

@@ -25,7 +25,7 @@ use std::alloc::Global;
 // What reseating gives: the arrows with the new cells, these as a list to show, and a fresh draw.
 #[derive(Drop)]
 pub(crate) struct Renewal {
-    filed: Filed,
+    filed: Filed<Vec<u16>>,
     shown: Vec<u16>,
     running: Running,
 }
@@ -33,22 +33,20 @@ pub(crate) struct Renewal {
 // The arrows with the ports of another tree in them. All that needs memory is done here, while nothing is changed yet.
 fn renewed(
     plan: &AnyPlan,
-    filed: &Filed,
+    filed: &Filed<Vec<u16>>,
     running: &Running,
     room: u16,
     heap: Global,
     ports: &[u16],
 ) -> Result<Renewal, DrawFault>
-    ensures { MatchResult result (λ x. Renewed (any_layout plan.now) filed.now (drawing_of running.now) room ports.now x) (λ e. ((reseats_to (any_layout plan.now) (drawing_of running.now).held.draw filed.now.depth filed.now.ports.items ports.now).0 ≡ Err e) ⊎ (e ≡ NoMemory)) }
+    ensures { MatchResult result (λ x. Renewed (any_layout plan.now) filed.now (drawing_of running.now) room ports.now x) (λ e. ((reseats_to (any_layout plan.now) (drawing_of running.now).held.draw filed.now.listing.depth filed.now.ports.items ports.now).0 ≡ Err e) ⊎ (e ≡ NoMemory)) }
 {
     let mut cells = filed.ports.to_vec(heap)?;
-    running.reseat(plan, cells.as_mut_slice(), filed.depth, ports)?;
+    running.reseat(plan, cells.as_mut_slice(), filed.listing.depth, ports)?;
     let shown = cells.to_vec(heap)?;
     let running = Running::open(plan, room, heap)?;
     let filed = Filed {
-        size: filed.size,
-        root: filed.root,
-        depth: filed.depth,
+        listing: filed.listing,
         ports: cells,
     };
     Ok(Renewal {

@@ -10,8 +10,9 @@ use crate::hall::{Hall, Pending};
 use model::fault::DrawFault;
 use model::plan::Plan;
 use sources::any::AnyArrows;
-use sources::depth::{cell_count, cells_fault};
+use sources::depth::check_cells;
 use sources::filed::Filed;
+use sources::listing::Listing;
 
 impl Pending {
     // Whether with so many more there would be more cells than wanted.
@@ -40,18 +41,13 @@ impl Session {
         let Hall::Planned(plan, pending) = &mut self.hall else {
             return Answer::Silent;
         };
-        let size = plan.size();
-        let root = plan.root();
-        let Some(Pending { depth, ports, .. }) = pending.take_if(|pending| pending.ports.len()
-            == cell_count(size, pending.depth)) else {
+        let whole = |pending: &mut Pending| pending.ports.len()
+            == Listing::of(plan, pending.depth).count();
+        let Some(Pending { depth, ports, .. }) = pending.take_if(whole) else {
             return Answer::Silent;
         };
-        self.arrows = Some(AnyArrows::Filed(Filed {
-            size,
-            root,
-            depth,
-            ports,
-        }));
+        let listing = Listing::of(plan, depth);
+        self.arrows = Some(AnyArrows::Filed(Filed { listing, ports }));
         self.running = None;
         Answer::Filed { depth }
     }
@@ -67,10 +63,8 @@ impl Session {
         let Hall::Planned(plan, pending @ None) = &mut self.hall else {
             return Err(Misplaced::NoPlan.into());
         };
-        if let Some(fault) = cells_fault(plan.size(), depth) {
-            return Err(fault.into());
-        }
-        if cell_count(plan.size(), depth) < ports.len() {
+        check_cells(plan.size(), depth)?;
+        if Listing::of(plan, depth).count() < ports.len() {
             return Err(Misplaced::TooMany.into());
         }
         *pending = Some(Pending { line, depth, ports });
@@ -84,7 +78,7 @@ impl Session {
             return Err(Misplaced::NoFiled.into());
         };
         let pending = pending.as_mut().ok_or(Misplaced::NoFiled)?;
-        if pending.exceeds(cell_count(plan.size(), pending.depth), ports.len()) {
+        if pending.exceeds(Listing::of(plan, pending.depth).count(), ports.len()) {
             return Err(Misplaced::TooMany.into());
         }
         pending.extend(ports)?;

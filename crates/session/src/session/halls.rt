@@ -13,7 +13,7 @@ use plans::complete::Complete;
 use plans::table::Table;
 use sources::any::AnyArrows;
 use sources::cap::Cap;
-use sources::depth::depth_fault;
+use sources::depth::check_depth;
 use sources::seeded::Seeded;
 use std::alloc::Global;
 use std::mem;
@@ -111,9 +111,7 @@ impl Session {
         ensures { (said_so result, desk_of self.new) ≡ takes_seed (desk_of self.old) seed depth }
     {
         self.hall.plan().ok_or(Misplaced::NoPlan)?;
-        if let Some(fault) = depth_fault(depth) {
-            return Err(fault.into());
-        }
+        check_depth(depth)?;
         let below = Seeded { seed };
         self.arrows = Some(AnyArrows::Seeded(Cap { depth, below }));
         self.running = None;

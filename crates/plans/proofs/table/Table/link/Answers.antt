@@ -8,13 +8,13 @@ use Rattle.plans.specs.declared.table.Span.{Span}
 pub grown-span-requires : goal.grown-span-requires
 grown-span-requires c =
     let t = c.args.self.now in
-    span_free t c.args.from c.args.to (taken (cabling_of t) c.args.from c.args.to (sym c.in_default.ensures)) c.span.result c.span.ensures
+    span_free t c.args.from c.args.to (taken (cabling_of t) c.args.from c.args.to c.in_ok-check_link.ensures) c.span.result c.span.ensures
 
 pub invariant_of-self : goal.invariant_of-self
 invariant_of-self c =
     let t = c.args.self.now in
     let u = c.args.from in
-    let ok : Taken (cabling_of t) u c.args.to = taken (cabling_of t) u c.args.to (sym c.in_default.ensures) in
+    let ok : Taken (cabling_of t) u c.args.to = taken (cabling_of t) u c.args.to c.in_ok-check_link.ensures in
     let end : c.len-end.result ≡ length (vec_items t.links) = c.len-end.ensures ∙ t.links.ok.0 in
     let span : c.grown-span.result ≡ grown (span_at (vec_items t.spans) u) (length (vec_items t.links)) =
     c.grown-span.ensures ∙ ap (λ (s : Span). grown s c.len-end.result) c.span.ensures ∙ ap (grown (span_at (vec_items t.spans) u)) end in

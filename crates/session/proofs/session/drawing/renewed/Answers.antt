@@ -10,7 +10,7 @@ use Rattle.session.proofs.session.drawing.renewed.Goals as goal
 pub returns-in_err-reseat : goal.returns-in_err-reseat
 returns-in_err-reseat c =
     let lent : c.as_mut_slice.result.now ≡ vec_items c.args.filed.now.ports = grind (arith, common_steps) in
-    let fault : (reseats_to (any_layout c.args.plan.now) (drawing_of c.args.running.now).held.draw c.args.filed.now.depth (vec_items c.args.filed.now.ports) c.args.ports.now).0 ≡ Err c.in_err-reseat.field-0.0 =
+    let fault : (reseats_to (any_layout c.args.plan.now) (drawing_of c.args.running.now).held.draw c.args.filed.now.listing.depth (vec_items c.args.filed.now.ports) c.args.ports.now).0 ≡ Err c.in_err-reseat.field-0.0 =
     rw (← lent) (sym (ap (λ x. x.0) c.in_err-reseat.ensures)) in
     grind (arith, common_steps)
 
@@ -21,9 +21,7 @@ returns c =
     with_items_is c.in_ok-cells.cells _ (c.reseat.auto.cells ∙ ap length c.as_mut_slice.ensures.value ∙ sym c.in_ok-cells.cells.ok.0) in
     record {
       cells = rw (← lent) (sym c.in_ok-reseat.ensures ∙ ap (λ (l : List ℕ). (Ok tt, l)) (sym back));
-      same_size = refl;
-      same_root = refl;
-      same_depth = refl;
+      same_listing = refl;
       shown = grind (arith, common_steps);
       fresh = c.in_ok-running.ensures;
     }
