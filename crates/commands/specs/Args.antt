@@ -1,10 +1,12 @@
 -- What the words after a command's name say. Assumes nothing.
-use Rattle.std.specs.Prelude.{ℕ, cond, List, [], ◌∷◌, Some, None, Ok, Err, codes, Option, Result}
+use Rattle.std.specs.Prelude.{◌≡◌, ⊤, ℕ, cond, List, [], ◌∷◌, Some, None, Ok, Err, codes, Option, Result}
 use Rattle.std.specs.Str.{bytes_eq}
 use Rattle.tokens.specs.Numbers.{number_of}
 use Rattle.commands.specs.declared.args.Dash.{Dash}
 use Rattle.commands.specs.declared.args.Dash.TheVariants.{Allowed, Refused}
 use Rattle.commands.specs.declared.command.Mistake.{Mistake}
+use Rattle.commands.specs.declared.command.Unread.{Unread}
+use Rattle.commands.specs.declared.command.Unread.TheVariants as unread
 use Rattle.commands.specs.declared.command.Mistake.TheVariants.{Count, Number}
 
 -- what is made of a reading; a mistake stays
@@ -16,6 +18,12 @@ and_then (Ok a) more = more a
 abbrev pub meant : {A B : Type 0} → (A → B) → Result A Mistake → Result B Mistake
 meant means (Err e) = Err e
 meant means (Ok a) = Ok (means a)
+
+-- the same of a reading that memory may be short for; then it says nothing
+abbrev pub Reads : {A B : Type 0} → (A → B) → Result A Unread → Result B Mistake → Type 0
+Reads means (Ok a) meaning = Ok (means a) ≡ meaning
+Reads means (Err (unread.Mistake e)) meaning = Err e ≡ meaning
+Reads means (Err (unread.NoMemory full)) meaning = ⊤
 
 -- a word that writes no number, or too large a one, is a mistake
 abbrev pub or_mistake : Option ℕ → Result ℕ Mistake

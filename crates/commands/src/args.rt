@@ -1,11 +1,11 @@
 // Reads the words after a command's name.
-ghost use Rattle.std.specs.Prelude.{◌≡◌, IfOk, vec_items};
+ghost use Rattle.std.specs.Prelude.{◌≡◌, vec_items};
 ghost use Rattle.std.specs.Str.{bytes_eq};
-ghost use Rattle.commands.specs.Args.{meant, small_of, port_of, entry_of, list_of, pair_of, single_of, two_of, around_of};
+ghost use Rattle.commands.specs.Args.{meant, Reads, small_of, port_of, entry_of, list_of, pair_of, single_of, two_of, around_of};
 ghost use Rattle.tokens.specs.Words.{bytes};
 
-use crate::command::Mistake;
-use std::alloc::{AllocError, Global};
+use crate::command::{Mistake, Unread};
+use std::alloc::Global;
 use tokens::number::number;
 
 // Whether `-`, for the root's port, may stand in a list of numbers.
@@ -53,22 +53,16 @@ fn entry(word: &[u8], dash: Dash) -> Result<u16, Mistake>
     }
 }
 
-// The words as numbers, in order. Want of memory is no mistake of the line, so it is kept apart.
-pub(crate) fn list(
-    heap: Global,
-    args: &[&[u8]],
-    dash: Dash,
-) -> Result<Result<Vec<u16>, Mistake>, AllocError>
-    ensures { IfOk result (λ a. meant vec_items a ≡ list_of dash (bytes args.now)) }
+// The words as numbers, in order.
+pub(crate) fn list(heap: Global, args: &[&[u8]], dash: Dash) -> Result<Vec<u16>, Unread>
+    ensures { Reads vec_items result (list_of dash (bytes args.now)) }
 {
     let mut numbers = Vec::new(heap);
     for word in args {
-        match entry(word, dash) {
-            Ok(n) => numbers.push(n)?,
-            Err(mistake) => return Ok(Err(mistake)),
-        }
+        let n = entry(word, dash)?;
+        numbers.push(n)?;
     }
-    Ok(Ok(numbers))
+    Ok(numbers)
 }
 
 // Two numbers, the left one first.

@@ -1,14 +1,16 @@
 // What a line of a sheet asks for.
-ghost use Rattle.std.specs.Prelude.{◌≡◌, IfOk, Some};
+ghost use Rattle.std.specs.Prelude.{◌≡◌, Some, alloc_error};
+ghost use Rattle.commands.specs.Args.{Reads};
 ghost use Rattle.commands.specs.Answers.{asked, answer};
 ghost use Rattle.commands.specs.Commands.{alone_of, sized_of, complete_of, table_of, link_of, check_of, filed_of, cells_of, seeded_of, room_of, listed_of, order_of, try_of, run_of, reseat_of, command_of};
 ghost use Rattle.commands.specs.Told.{told};
+ghost use Rattle.commands.specs.declared.command.Unread.TheVariants as unread;
 ghost use Rattle.tokens.specs.Words.{bytes};
 
 use crate::args::{Dash, around, is, list, pair, single, small, two};
 use crate::keyword::{Keyword, keyword_of};
 use crate::scope::Scope;
-use std::alloc::{AllocError, Global};
+use std::alloc::{AllocError, AllocFailed, Global};
 use std::fmt;
 use tokens::number::number;
 use tokens::seed::seed;
@@ -75,6 +77,30 @@ impl fmt::Display for Mistake {
     }
 }
 
+// Why no command was read from a line.
+#[derive(Clone, Copy)]
+pub enum Unread {
+    Mistake(Mistake),
+    // Memory was short. The line may well hold a command.
+    NoMemory(AllocError),
+}
+
+impl From<Mistake> for Unread {
+    ghost from_gives = { λ mistake e. e ≡ unread.Mistake mistake };
+
+    fn from(mistake: Mistake) -> Unread {
+        Unread::Mistake(mistake)
+    }
+}
+
+impl<T: Drop> From<AllocFailed<T>> for Unread {
+    ghost from_gives = { λ _ e. e ≡ unread.NoMemory alloc_error };
+
+    fn from(full: AllocFailed<T>) -> Unread {
+        Unread::NoMemory(AllocError::from(full))
+    }
+}
+
 // A command that takes no further words.
 fn alone(args: &[&[u8]], command: Command) -> Result<Command, Mistake>
     ensures { answer result ≡ alone_of (asked command) (bytes args.now) }
@@ -116,38 +142,27 @@ fn link(args: &[&[u8]]) -> Result<Command, Mistake>
     Ok(Command::Link { from, to })
 }
 
-fn check(heap: Global, args: &[&[u8]]) -> Result<Result<Command, Mistake>, AllocError>
-    ensures { IfOk result (λ a. answer a ≡ check_of (bytes args.now)) }
+fn check(heap: Global, args: &[&[u8]]) -> Result<Command, Unread>
+    ensures { Reads asked result (check_of (bytes args.now)) }
 {
-    match list(heap, args, Dash::Allowed)? {
-        Ok(ports) => Ok(Ok(Command::Check { ports })),
-        Err(mistake) => Ok(Err(mistake)),
-    }
+    let ports = list(heap, args, Dash::Allowed)?;
+    Ok(Command::Check { ports })
 }
 
-fn filed(heap: Global, args: &[&[u8]]) -> Result<Result<Command, Mistake>, AllocError>
-    ensures { IfOk result (λ a. answer a ≡ filed_of (bytes args.now)) }
+fn filed(heap: Global, args: &[&[u8]]) -> Result<Command, Unread>
+    ensures { Reads asked result (filed_of (bytes args.now)) }
 {
-    let Some((first, cells)) = args.split_first() else {
-        return Ok(Err(Mistake::Count));
-    };
-    let depth = match small(first) {
-        Ok(depth) => depth,
-        Err(mistake) => return Ok(Err(mistake)),
-    };
-    match list(heap, cells, Dash::Refused)? {
-        Ok(ports) => Ok(Ok(Command::Filed { depth, ports })),
-        Err(mistake) => Ok(Err(mistake)),
-    }
+    let (first, cells) = args.split_first().ok_or(Mistake::Count)?;
+    let depth = small(first)?;
+    let ports = list(heap, cells, Dash::Refused)?;
+    Ok(Command::Filed { depth, ports })
 }
 
-fn cells(heap: Global, args: &[&[u8]]) -> Result<Result<Command, Mistake>, AllocError>
-    ensures { IfOk result (λ a. answer a ≡ cells_of (bytes args.now)) }
+fn cells(heap: Global, args: &[&[u8]]) -> Result<Command, Unread>
+    ensures { Reads asked result (cells_of (bytes args.now)) }
 {
-    match list(heap, args, Dash::Refused)? {
-        Ok(ports) => Ok(Ok(Command::Cells { ports })),
-        Err(mistake) => Ok(Err(mistake)),
-    }
+    let ports = list(heap, args, Dash::Refused)?;
+    Ok(Command::Cells { ports })
 }
 
 fn seeded(args: &[&[u8]]) -> Result<Command, Mistake>
@@ -166,22 +181,20 @@ fn room(args: &[&[u8]]) -> Result<Command, Mistake>
     Ok(Command::Room { records })
 }
 
-fn listed(heap: Global, args: &[&[u8]]) -> Result<Result<Command, Mistake>, AllocError>
-    ensures { IfOk result (λ a. answer a ≡ listed_of (bytes args.now)) }
+fn listed(heap: Global, args: &[&[u8]]) -> Result<Command, Unread>
+    ensures { Reads asked result (listed_of (bytes args.now)) }
 {
-    match list(heap, args, Dash::Refused)? {
-        Ok(vertices) => Ok(Ok(Command::Listed { vertices })),
-        Err(mistake) => Ok(Err(mistake)),
-    }
+    let vertices = list(heap, args, Dash::Refused)?;
+    Ok(Command::Listed { vertices })
 }
 
 // A fresh walk, or an order by its vertices.
-fn order(heap: Global, args: &[&[u8]]) -> Result<Result<Command, Mistake>, AllocError>
-    ensures { IfOk result (λ a. answer a ≡ order_of (bytes args.now)) }
+fn order(heap: Global, args: &[&[u8]]) -> Result<Command, Unread>
+    ensures { Reads asked result (order_of (bytes args.now)) }
 {
     match args {
-        [] => Ok(Err(Mistake::Count)),
-        [word] if is(word, b"walk") => Ok(Ok(Command::Walk)),
+        [] => Err(Unread::Mistake(Mistake::Count)),
+        [word] if is(word, b"walk") => Ok(Command::Walk),
         _ => listed(heap, args),
     }
 }
@@ -200,47 +213,39 @@ fn run(args: &[&[u8]]) -> Result<Command, Mistake>
     Ok(Command::Run { budget })
 }
 
-fn reseat(heap: Global, args: &[&[u8]]) -> Result<Result<Command, Mistake>, AllocError>
-    ensures { IfOk result (λ a. answer a ≡ reseat_of (bytes args.now)) }
+fn reseat(heap: Global, args: &[&[u8]]) -> Result<Command, Unread>
+    ensures { Reads asked result (reseat_of (bytes args.now)) }
 {
-    match list(heap, args, Dash::Allowed)? {
-        Ok(ports) => Ok(Ok(Command::Reseat { ports })),
-        Err(mistake) => Ok(Err(mistake)),
-    }
+    let ports = list(heap, args, Dash::Allowed)?;
+    Ok(Command::Reseat { ports })
 }
 
 // What the words of a line ask for, in a sheet of this scope. A line without words is passed over by the caller; here it names no command.
-// Want of memory is no mistake of the line, so it is kept apart.
-pub fn command_of(
-    heap: Global,
-    scope: Scope,
-    words: &[&[u8]],
-) -> Result<Result<Command, Mistake>, AllocError>
-    ensures { IfOk result (λ a. answer a ≡ command_of scope (bytes words.now)) }
+pub fn command_of(heap: Global, scope: Scope, words: &[&[u8]]) -> Result<Command, Unread>
+    ensures { Reads asked result (command_of scope (bytes words.now)) }
 {
-    let Some((first, args)) = words.split_first() else {
-        return Ok(Err(Mistake::Unknown));
+    let (first, args) = words.split_first().ok_or(Mistake::Unknown)?;
+    let keyword = keyword_of(scope, first).ok_or(Mistake::Unknown)?;
+    let command = match keyword {
+        Keyword::Complete => complete(args)?,
+        Keyword::Table => table(args)?,
+        Keyword::Link => link(args)?,
+        Keyword::Check => check(heap, args)?,
+        Keyword::Filed => filed(heap, args)?,
+        Keyword::Cells => cells(heap, args)?,
+        Keyword::Seeded => seeded(args)?,
+        Keyword::Room => room(args)?,
+        Keyword::Open => alone(args, Command::Open)?,
+        Keyword::Order => order(heap, args)?,
+        Keyword::Try => try_at(args)?,
+        Keyword::Step => alone(args, Command::Step)?,
+        Keyword::Run => run(args)?,
+        Keyword::Heights => alone(args, Command::Heights)?,
+        Keyword::OpenVertices => alone(args, Command::OpenVertices)?,
+        Keyword::Records => alone(args, Command::Records)?,
+        Keyword::Tree => alone(args, Command::Tree)?,
+        Keyword::Reseat => reseat(heap, args)?,
+        Keyword::Help => alone(args, Command::Help { scope })?,
     };
-    match keyword_of(scope, first) {
-        Some(Keyword::Complete) => Ok(complete(args)),
-        Some(Keyword::Table) => Ok(table(args)),
-        Some(Keyword::Link) => Ok(link(args)),
-        Some(Keyword::Check) => check(heap, args),
-        Some(Keyword::Filed) => filed(heap, args),
-        Some(Keyword::Cells) => cells(heap, args),
-        Some(Keyword::Seeded) => Ok(seeded(args)),
-        Some(Keyword::Room) => Ok(room(args)),
-        Some(Keyword::Open) => Ok(alone(args, Command::Open)),
-        Some(Keyword::Order) => order(heap, args),
-        Some(Keyword::Try) => Ok(try_at(args)),
-        Some(Keyword::Step) => Ok(alone(args, Command::Step)),
-        Some(Keyword::Run) => Ok(run(args)),
-        Some(Keyword::Heights) => Ok(alone(args, Command::Heights)),
-        Some(Keyword::OpenVertices) => Ok(alone(args, Command::OpenVertices)),
-        Some(Keyword::Records) => Ok(alone(args, Command::Records)),
-        Some(Keyword::Tree) => Ok(alone(args, Command::Tree)),
-        Some(Keyword::Reseat) => reseat(heap, args),
-        Some(Keyword::Help) => Ok(alone(args, Command::Help { scope })),
-        None => Ok(Err(Mistake::Unknown)),
-    }
+    Ok(command)
 }

@@ -6,7 +6,7 @@ ghost use Rattle.session.specs.Said.{said_so};
 ghost use Rattle.sheet.specs.Lines.{worse, due_lines, due_outcome, answered_text, answer_outcome, reply_of, Obeyed, SomeObeyed, Replied, Untold, shown};
 
 use crate::text::{answer_text, due_text, misplaced_text, mistake_text};
-use commands::command::{Command, command_of};
+use commands::command::{Command, Unread, command_of};
 use commands::scope::Scope;
 use session::answer::{Answer, Due, Misplaced};
 use session::session::Session;
@@ -132,12 +132,13 @@ pub(crate) fn do_line(
         let outcome = Outcome::Fine;
         return Ok(Reply { text, outcome });
     }
-    match command_of(heap, scope, words.as_slice())? {
+    match command_of(heap, scope, words.as_slice()) {
         Ok(command) => obey(session, heap, number, command),
-        Err(mistake) => {
+        Err(Unread::Mistake(mistake)) => {
             let text = mistake_text(heap, number, mistake)?;
             let outcome = Outcome::Bad;
             Ok(Reply { text, outcome })
         }
+        Err(Unread::NoMemory(full)) => Err(full),
     }
 }

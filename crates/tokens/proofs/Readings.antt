@@ -1,49 +1,82 @@
--- One digit after another gives the number of a word. Assumes nothing.
-use Rattle.std.proofs.Common.{◌≡◌, ℕ, ◌+◌, ◌*◌, ◌<◌, ◌≤◌, Bool, true, false, cond, ◌&&◌, ltb, leb, List, [], ◌∷◌, length, get_or, drop, Some, None, Option, sym, refl, ap, ◌∙◌, le-mul_of_pos_right, arith}
-use Rattle.std.proofs.lemmas.List.{at_drop_more, at_drop_all}
-use Rattle.std.proofs.lemmas.Bool.{and_right, le-leb, lt-leb, lt-ltb, le-ltb}
-use Rattle.std.specs.Str.Parse.{digits_value_after}
+-- A word is read as the library reads it. Assumes nothing.
+use Rattle.std.proofs.Common.{◌≡◌, ℕ, zero, suc, ◌^◌, ◌<◌, ◌≤◌, Bool, true, false, cond, ◌&&◌, eqb, ltb, leb, List, [], ◌∷◌, Some, None, Ok, Err, Result, MatchResult, sym, refl, ap, ◌∙◌, subst, arith}
+use Rattle.std.proofs.lemmas.Bool.{and_from, and_parts, le-leb, lt-ltb, eq-eqb, leb-true, ltb-true}
+use Rattle.std.proofs.lemmas.Bool.Decides.{nat_tests}
+use Rattle.std.proofs.lemmas.Str.{IsUtf8-from_ascii}
+use Rattle.std.proofs.lemmas.Str.Parse.{without_leading_plus_none}
+use Rattle.std.specs.Bool.{then_some}
 use Rattle.std.specs.Char.{digit_value}
+use Rattle.std.specs.List.{starts_with}
+use Rattle.std.specs.Result.{result_ok}
+use Rattle.std.specs.Str.Parse.{AllDigits, IsNumeral, digits_value, without_leading_plus, ParsesUnsigned}
+use Rattle.std.specs.Str.{IsUtf8, IsAscii}
 use Rattle.tokens.specs.Numbers.{all_digits, reading_of}
 
--- the number of a word where n is what its digits so far write
-abbrev pub reading_after : ℕ → ℕ → ℕ → List ℕ → Option ℕ
-reading_after base n most bs = cond (all_digits base bs && leb (digits_value_after base n bs) most) (Some (digits_value_after base n bs)) None
+digits_test : (base : ℕ) (bs : List ℕ) → AllDigits base bs → all_digits base bs ≡ true
+digits_test base [] digits = refl
+digits_test base (b ∷ bs) (digit, digits) = and_from _ _ (lt-ltb (digit_value b) base digit) (digits_test base bs digits)
 
-pub from_start : (base most : ℕ) (bs : List ℕ) → (length bs ≡ 0 → ⊥) → reading_after base 0 most bs ≡ reading_of base most bs
-from_start base most [] some = absurd (some refl)
-from_start base most (b ∷ bs) some = refl
+digits_from_test : (base : ℕ) (bs : List ℕ) → all_digits base bs ≡ true → AllDigits base bs
+digits_from_test base [] is = tt
+digits_from_test base (b ∷ bs) is =
+    let (first, rest) = and_parts (ltb (digit_value b) base) (all_digits base bs) is in
+    (ltb-true (digit_value b) base first, digits_from_test base bs rest)
 
--- the word where its first byte is a digit or not, and n is what the digits up to it write
-abbrev with_first : Bool → ℕ → ℕ → ℕ → List ℕ → Option ℕ
-with_first digit base n most rest = cond ((digit && all_digits base rest) && leb (digits_value_after base n rest) most) (Some (digits_value_after base n rest)) None
+-- a numeral up to the limit is read as its value
+pub taken : (base most : ℕ) (bs : List ℕ) → IsNumeral base bs → digits_value base bs ≤ most → reading_of base most bs ≡ Some (digits_value base bs)
+taken base most [] (some, digits) within = absurd (omega arith)
+taken base most (b ∷ bs) (some, digits) within =
+    ap (λ (t : Bool). cond t (Some (digits_value base (b ∷ bs))) None) (and_from _ _ (digits_test base (b ∷ bs) digits) (le-leb _ most within))
 
--- the byte at i of the word, and its code as a character
-module _ (base n most i : ℕ) (w : List ℕ) (code : ℕ) (within : i < length w) (at : code ≡ get_or w i 0) where
-  opened : (t : Bool) → t ≡ ltb (digit_value code) base → with_first t base (n * base + digit_value code) most (drop (i + 1) w) ≡ reading_after base n most (drop i w)
-  opened t is =
-      ap (λ (d : Bool). with_first d base (n * base + digit_value code) most (drop (i + 1) w)) is
-      ∙ ap (λ (k : ℕ). with_first (ltb (digit_value k) base) base (n * base + digit_value k) most (drop (i + 1) w)) at
-      ∙ sym (at_drop_more (reading_after base n most) w i 0 within)
+-- no other word is read
+left : (base most : ℕ) (bs : List ℕ) → (IsNumeral base bs → digits_value base bs ≤ most → ⊥) → reading_of base most bs ≡ None
+left base most [] other = refl
+left base most (b ∷ bs) other = by (all_digits base (b ∷ bs)) (leb (digits_value base (b ∷ bs)) most) refl refl
+  where
+    by : (s t : Bool) → all_digits base (b ∷ bs) ≡ s → leb (digits_value base (b ∷ bs)) most ≡ t → cond (s && t) (Some (digits_value base (b ∷ bs))) None ≡ None
+    by true true digits within = absurd (other (omega arith, digits_from_test base (b ∷ bs) digits) (leb-true _ _ within))
+    by true false digits within = refl
+    by false t digits within = refl
 
-  -- a digit is taken in
-  pub one_digit : (v d : ℕ) → (digit_value code < base) × (d ≡ digit_value code) → v ≡ n * base + d → reading_after base v most (drop (i + 1) w) ≡ reading_after base n most (drop i w)
-  one_digit v d (digit, is) all =
-      ap (λ (k : ℕ). reading_after base k most (drop (i + 1) w)) (all ∙ ap (λ (k : ℕ). n * base + k) is)
-      ∙ opened true (sym (lt-ltb _ base digit))
+ascii_digit : (base b : ℕ) → base ≤ 36 → digit_value b < base → b < 128
+ascii_digit base b low digit = grind (arith, nat_tests)
 
-  -- a byte that is no digit spoils the word
-  pub no_digit : (digit_value code < base → ⊥) → None ≡ reading_after base n most (drop i w)
-  no_digit other = opened false (sym (le-ltb _ base (omega arith)))
+ascii : (base : ℕ) (bs : List ℕ) → base ≤ 36 → AllDigits base bs → IsAscii bs
+ascii base [] low digits i = omega arith
+ascii base (b ∷ bs) low (digit, digits) zero = ascii_digit base b low digit
+ascii base (b ∷ bs) low (digit, digits) (suc i) = ascii base bs low digits i
 
-pub at_end : (base n most i : ℕ) (w : List ℕ) → n ≤ most → length w ≤ i → Some n ≡ reading_after base n most (drop i w)
-at_end base n most i w within past =
-    ap (λ (d : Bool). cond d (Some n) None) (sym (le-leb n most within)) ∙ sym (at_drop_all (reading_after base n most) w i past)
+plain : (bs : List ℕ) → false ≡ starts_with eqb bs (43 ∷ []) → without_leading_plus bs ≡ bs
+plain [] other = refl
+plain (b ∷ bs) other = without_leading_plus_none (b ∷ bs) (λ (plus : b ≡ 43). absurd (let e : starts_with eqb (b ∷ bs) (43 ∷ []) ≡ true = and_from _ _ (eq-eqb 43 b (sym plus)) refl in cc))
 
-grows : (base n : ℕ) (bs : List ℕ) → 0 < base → n ≤ digits_value_after base n bs
-grows base n [] some = omega arith
-grows base n (b ∷ bs) some = omega (arith, le-mul_of_pos_right {m = base} n some, grows base (n * base + digit_value b) bs some)
+-- a numeral, where it is within the limit
+bounded : (base most : ℕ) (bs : List ℕ) (t : Bool) → t ≡ leb (digits_value base bs) most → IsNumeral base bs → then_some t (digits_value base bs) ≡ reading_of base most bs
+bounded base most bs true test is = sym (taken base most bs is (leb-true _ _ (sym test)))
+bounded base most bs false test is = sym (left base most bs (λ _ within. absurd (let e = le-leb (digits_value base bs) most within in cc)))
 
-pub too_large : (base n most : ℕ) (bs : List ℕ) → 0 < base → most < n → reading_after base n most bs ≡ None
-too_large base n most bs some above =
-    ap (λ (d : Bool). cond d (Some (digits_value_after base n bs)) None) (and_right _ _ (lt-leb (digits_value_after base n bs) most (omega (arith, grows base n bs some))))
+-- bytes that are no text are not read
+pub no_text : (base most : ℕ) (bs : List ℕ) → base ≤ 36 → (IsUtf8 bs → ⊥) → None ≡ reading_of base most bs
+no_text base most bs low other = sym (left base most bs (λ is within. other (IsUtf8-from_ascii bs (ascii base bs low is.1))))
+
+-- what a clause says of a result that was passed on as an option
+pub refused : {X E : Type 0} (r : Result X E) (P : X → Type 0) (Q : E → Type 0) → MatchResult r P Q → None ≡ result_ok r → (e : E) × Q e
+refused (Ok x) P Q h none = absurd (cc)
+refused (Err e) P Q h none = (e, h)
+
+pub accepted : {X E : Type 0} (r : Result X E) (x : X) (P : X → Type 0) (Q : E → Type 0) → MatchResult r P Q → Some x ≡ result_ok r → P x
+accepted (Ok y) x P Q h some = let same : y ≡ x = cc in subst P same h
+accepted (Err e) x P Q h some = absurd (cc)
+
+-- no number was read from a text with no sign
+pub no_number : {E : Type 0} (base most : ℕ) (bs : List ℕ) (r : Result ℕ E) → most < 2 ^ 64 → false ≡ starts_with eqb bs (43 ∷ []) → ParsesUnsigned 64 base bs r → None ≡ result_ok r → None ≡ reading_of base most bs
+no_number base most bs (Ok n) small signless parses none = absurd (cc)
+no_number base most bs (Err e) small signless not none =
+    sym (left base most _ (λ is within. not (is, omega arith))) ∙ ap (reading_of base most) (plain bs signless)
+
+-- a number was read
+pub a_number : {E : Type 0} (base most n : ℕ) (bs : List ℕ) (r : Result ℕ E) → false ≡ starts_with eqb bs (43 ∷ []) → ParsesUnsigned 64 base bs r → Some n ≡ result_ok r → then_some (leb n most) n ≡ reading_of base most bs
+a_number base most n bs (Ok m) signless ((is, below), m_is) some =
+    let n_is : n ≡ digits_value base (without_leading_plus bs) = cc in
+    ap (λ (k : ℕ). then_some (leb k most) k) n_is ∙ bounded base most _ _ refl is ∙ ap (reading_of base most) (plain bs signless)
+a_number base most n bs (Err e) signless not some = absurd (cc)
