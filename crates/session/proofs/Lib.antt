@@ -1,1 +1,1 @@
-mod Desking
+pub mod Desking

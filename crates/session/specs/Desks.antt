@@ -8,11 +8,8 @@ use Rattle.model.specs.Filed.{filed_cells}
 use Rattle.model.specs.Layouts.{Layout}
 use Rattle.model.specs.Seeds.{seeded_cells}
 use Rattle.model.specs.Trees.{tree_check}
-use Rattle.model.specs.declared.draw.Stop.{Stop}
-use Rattle.model.specs.declared.draw.Tried.{Tried}
 use Rattle.model.specs.declared.fault.DrawFault.{DrawFault}
 use Rattle.model.specs.declared.fault.DrawFault.TheVariants.{NoMemory}
-use Rattle.model.specs.declared.tree.TreeCheck.{TreeCheck}
 use Rattle.theory.specs.Ends.{if_some}
 use Rattle.theory.specs.Reseats.{reseats_to}
 use Rattle.plans.specs.Cablings.{Cabling, cabled, unlinked, linked}
@@ -31,6 +28,8 @@ use Rattle.session.specs.declared.answer.Due.{Due}
 use Rattle.session.specs.declared.answer.Due.TheVariants as due
 use Rattle.session.specs.declared.answer.Misplaced.{Misplaced}
 use Rattle.session.specs.declared.answer.Misplaced.TheVariants as misplaced
+use Rattle.session.specs.declared.answer.Refusal.{Refusal}
+use Rattle.session.specs.declared.answer.Refusal.TheVariants as refusal
 use Rattle.session.specs.declared.hall.Hall.{Hall}
 use Rattle.session.specs.declared.hall.Pending as hall_of
 use Rattle.session.specs.declared.hall.Hall.TheVariants as hall
@@ -91,8 +90,8 @@ pending_of q = record { line = q.line; depth = q.depth; ports = vec_items q.port
 abbrev pub place_of : Hall → Place
 place_of hall.Empty = empty
 place_of (hall.Linking t) = linking (cabling_of t)
-place_of (hall.Filing p q) = filing (planned_of p) (pending_of q)
-place_of (hall.Ready p) = ready (planned_of p)
+place_of (hall.Planned p None) = ready (planned_of p)
+place_of (hall.Planned p (Some q)) = filing (planned_of p) (pending_of q)
 
 abbrev pub arrowed_of : AnyArrows → Arrowed
 arrowed_of (source.Filed f) = filed f.listing.size f.listing.root f.listing.depth (vec_items f.ports)
@@ -159,12 +158,21 @@ before c d = cond (goes_on c d.place) (None, d) (closes d)
 -- ---- what commands do: the answer, and the desk after
 
 abbrev pub Done : Type 0
-Done = Result Said Misplaced × Desk
+Done = Result Said Refusal × Desk
 
--- a refusal changes nothing
+-- the command is out of place: nothing changes
+abbrev pub misplaced_at : Misplaced → Desk → Done
+misplaced_at m d = (Err (refusal.Misplaced m), d)
+
+-- a fault changes nothing
 abbrev pub unless_fault : Option DrawFault → Desk → Done → Done
 unless_fault None d x = x
-unless_fault (Some e) d x = (Ok (said.refused e), d)
+unless_fault (Some e) d x = (Err (refusal.Fault e), d)
+
+-- what the library gives as an answer, or its fault as a refusal
+abbrev pub told : {A : Type 0} → (A → Said) → Result A DrawFault → Result Said Refusal
+told f (Ok x) = Ok (f x)
+told f (Err e) = Err (refusal.Fault e)
 
 -- the plan, unless it is not told whole
 abbrev pub plan_at : Place → Option Planned
@@ -175,11 +183,11 @@ plan_at (ready p) = Some p
 
 -- what needs a plan
 abbrev pub with_plan : Desk → (Planned → Done) → Done
-with_plan d f = if_some (plan_at d.place) (Err misplaced.NoPlan, d) f
+with_plan d f = if_some (plan_at d.place) (misplaced_at misplaced.NoPlan d) f
 
 -- what needs a plan, arrows and a draw
 abbrev pub with_draw : Desk → (Planned → Arrowed → Drawing → Done) → Done
-with_draw d f = if_some (plan_at d.place) (Err misplaced.NoDraw, d) (λ p. if_some d.arrows (Err misplaced.NoDraw, d) (λ a. if_some d.drawing (Err misplaced.NoDraw, d) (f p a)))
+with_draw d f = if_some (plan_at d.place) (misplaced_at misplaced.NoDraw d) (λ p. if_some d.arrows (misplaced_at misplaced.NoDraw d) (λ a. if_some d.drawing (misplaced_at misplaced.NoDraw d) (f p a)))
 
 -- another plan: arrows and draw are forgotten
 abbrev pub new_plan : Desk → Place → Desk
@@ -201,32 +209,22 @@ abbrev pub begins_table : Desk → ℕ → ℕ → Done
 begins_table d n r = unless_fault (plan_fault n r) d (Ok said.silent, new_plan d (linking (unlinked n r)))
 
 -- a table is begun, or it is at no fault and finds no memory
-abbrev pub BeginsTable : Desk → ℕ → ℕ → Result Said Misplaced → Desk → Type 0
-BeginsTable d n r x after = ((x, after) ≡ begins_table d n r) ⊎ ((plan_fault n r ≡ None) × (x ≡ Ok (said.refused NoMemory)) × (after ≡ d))
-
--- what a table's answer to a link is answered with
-abbrev pub acknowledged : Result (Unit {0}) DrawFault → Said
-acknowledged (Ok x) = said.silent
-acknowledged (Err e) = said.refused e
+abbrev pub BeginsTable : Desk → ℕ → ℕ → Result Said Refusal → Desk → Type 0
+BeginsTable d n r x after = ((x, after) ≡ begins_table d n r) ⊎ ((plan_fault n r ≡ None) × (x ≡ Err (refusal.Fault NoMemory)) × (after ≡ d))
 
 -- `link A B`: only a table whose links have not ended takes it
-abbrev pub linking_at : Place → ℕ → ℕ → Result Said Misplaced × Place
-linking_at empty a b = (Err misplaced.NoTable, empty)
-linking_at (linking c) a b = (Ok (acknowledged (linked c a b).0), linking (linked c a b).1)
-linking_at (filing p q) a b = (Err misplaced.NoTable, filing p q)
-linking_at (ready p) a b = (Err misplaced.NoTable, ready p)
+abbrev pub linking_at : Place → ℕ → ℕ → Result Said Refusal × Place
+linking_at empty a b = (Err (refusal.Misplaced misplaced.NoTable), empty)
+linking_at (linking c) a b = (told (λ _. said.silent) (linked c a b).0, linking (linked c a b).1)
+linking_at (filing p q) a b = (Err (refusal.Misplaced misplaced.NoTable), filing p q)
+linking_at (ready p) a b = (Err (refusal.Misplaced misplaced.NoTable), ready p)
 
 abbrev pub adds_link : Desk → ℕ → ℕ → Done
 adds_link d a b = ((linking_at d.place a b).0, put_at d (linking_at d.place a b).1)
 
--- what the check of a tree is answered with
-abbrev pub reported : Result TreeCheck DrawFault → Said
-reported (Ok t) = said.checked t
-reported (Err e) = said.refused e
-
 -- `check P P ..`
 abbrev pub checks : Desk → List ℕ → Done
-checks d ports = with_plan d (λ p. (Ok (reported (tree_check (layout_of p) ports)), d))
+checks d ports = with_plan d (λ p. (told said.checked (tree_check (layout_of p) ports), d))
 
 -- the filed arrows that lack cells
 abbrev pub pending_at : Place → Option (Planned × Pending)
@@ -248,7 +246,7 @@ finishes d p q =
 
 -- filed arrows with these cells so far: more than they have are out of place
 abbrev pub gathers : Desk → Planned → Pending → Done
-gathers d p q = cond (nat_lt (wanted p q) (length q.ports)) (Err misplaced.TooMany, d) (Ok (finishes d p q).0, (finishes d p q).1)
+gathers d p q = cond (nat_lt (wanted p q) (length q.ports)) (misplaced_at misplaced.TooMany d) (Ok (finishes d p q).0, (finishes d p q).1)
 
 -- the same by the place of the desk
 abbrev pub finishing : Desk → Said × Desk
@@ -269,7 +267,7 @@ extended q ports = record { line = q.line; depth = q.depth; ports = q.ports ++ p
 
 -- `cells P P ..`
 abbrev pub adds_cells : Desk → List ℕ → Done
-adds_cells d ports = if_some (pending_at d.place) (Err misplaced.NoFiled, d) (λ x. gathers d x.0 (extended x.1 ports))
+adds_cells d ports = if_some (pending_at d.place) (misplaced_at misplaced.NoFiled d) (λ x. gathers d x.0 (extended x.1 ports))
 
 -- `seeded S depth D`
 abbrev pub takes_seed : Desk → ℕ → ℕ → Done
@@ -281,55 +279,41 @@ makes_room d k = (Ok said.silent, record { place = d.place; arrows = d.arrows; d
 
 -- `open`
 abbrev pub opens : Desk → Done
-opens d = with_plan d (λ p. if_some d.arrows (Err misplaced.NoArrows, d) (λ a. (Ok (said.begun (layout_of p).size (layout_of p).root), new_drawing d (begun (layout_of p) d.room))))
+opens d = with_plan d (λ p. if_some d.arrows (misplaced_at misplaced.NoArrows d) (λ a. (Ok (said.begun (layout_of p).size (layout_of p).root), new_drawing d (begun (layout_of p) d.room))))
 
 -- `order walk` and `order V V ..`
 abbrev pub orders_by : Desk → Ordering → Done
-orders_by d o = if_some d.drawing (Err misplaced.NoDraw, d) (λ x. (Ok said.silent, new_drawing d (record { held = x.held; order = o })))
-
--- what a try, a step or a run is answered with
-abbrev pub told_tried : Result Tried DrawFault → Said
-told_tried (Ok t) = said.tried t
-told_tried (Err e) = said.refused e
-
-abbrev pub told_ran : Result (ℕ × Stop) DrawFault → Said
-told_ran (Ok x) = said.ran x.0 x.1
-told_ran (Err e) = said.refused e
+orders_by d o = if_some d.drawing (misplaced_at misplaced.NoDraw d) (λ x. (Ok said.silent, new_drawing d (record { held = x.held; order = o })))
 
 -- `try V`
 abbrev pub tries_at : Desk → ℕ → Done
-tries_at d v = with_draw d (λ p a x. (Ok (told_tried (tried (layout_of p) (cells_at a) v x).0), new_drawing d (tried (layout_of p) (cells_at a) v x).1))
+tries_at d v = with_draw d (λ p a x. (told said.tried (tried (layout_of p) (cells_at a) v x).0, new_drawing d (tried (layout_of p) (cells_at a) v x).1))
 
 -- `step`
 abbrev pub steps_on : Desk → Done
-steps_on d = with_draw d (λ p a x. (Ok (told_tried (stepped (layout_of p) (cells_at a) x).0), new_drawing d (stepped (layout_of p) (cells_at a) x).1))
+steps_on d = with_draw d (λ p a x. (told said.tried (stepped (layout_of p) (cells_at a) x).0, new_drawing d (stepped (layout_of p) (cells_at a) x).1))
 
 -- `run B`
 abbrev pub runs_for : Desk → ℕ → Done
-runs_for d budget = with_draw d (λ p a x. (Ok (told_ran (ran (layout_of p) (cells_at a) budget x).0), new_drawing d (ran (layout_of p) (cells_at a) budget x).1))
+runs_for d budget = with_draw d (λ p a x. (told (λ y. said.ran y.0 y.1) (ran (layout_of p) (cells_at a) budget x).0, new_drawing d (ran (layout_of p) (cells_at a) budget x).1))
 
 -- `heights`, `open?` and `records`
 abbrev pub shows : Desk → (Drawing → Said) → Done
-shows d f = if_some d.drawing (Err misplaced.NoDraw, d) (λ x. (Ok (f x), d))
-
--- what the tree is answered with
-abbrev pub told_tree : Result (List ℕ) DrawFault → Said
-told_tree (Ok ports) = said.tree ports
-told_tree (Err e) = said.refused e
+shows d f = if_some d.drawing (misplaced_at misplaced.NoDraw d) (λ x. (Ok (f x), d))
 
 -- `tree`
 abbrev pub shows_tree : Desk → Done
-shows_tree d = with_draw d (λ p a x. (Ok (told_tree (tree_shown (layout_of p) (cells_at a) x)), d))
+shows_tree d = with_draw d (λ p a x. (told said.tree (tree_shown (layout_of p) (cells_at a) x), d))
 
 -- the new cells are the arrows from now on, with a fresh draw over them
 abbrev pub reseated_desk : Desk → Planned → ℕ → ℕ → ℕ → Result (Unit {0}) DrawFault × List ℕ → Done
 reseated_desk d p n r depth (Ok x, cells) = (Ok (said.cells cells), new_drawing (new_arrows d (filed n r depth cells)) (begun (layout_of p) d.room))
-reseated_desk d p n r depth (Err e, cells) = (Ok (said.refused e), d)
+reseated_desk d p n r depth (Err e, cells) = (Err (refusal.Fault e), d)
 
 -- only filed arrows can be reseated
 abbrev pub reseats_arrows : Desk → Planned → Arrowed → Drawing → List ℕ → Done
 reseats_arrows d p (filed n r depth cells) x ports = reseated_desk d p n r depth (reseats_to (layout_of p) x.held.draw depth cells ports)
-reseats_arrows d p (seeded seed depth) x ports = (Err misplaced.NotFiled, d)
+reseats_arrows d p (seeded seed depth) x ports = misplaced_at misplaced.NotFiled d
 
 -- `reseat P P ..`
 abbrev pub reseats : Desk → List ℕ → Done
@@ -384,15 +368,15 @@ wants_memory (commands.reseat ports) = true
 wants_memory (commands.help scope) = false
 
 -- the command found no memory: it is refused, and the desk is as it was
-pub record LacksMemory (d : Desk) (c : commands.Asked) (r : Result Said Misplaced) (after : Desk) : Type 0 where
+pub record LacksMemory (d : Desk) (c : commands.Asked) (r : Result Said Refusal) (after : Desk) : Type 0 where
   pub wants : wants_memory c ≡ true
-  pub refused : r ≡ Ok (said.refused NoMemory)
+  pub refused : r ≡ Err (refusal.Fault NoMemory)
   pub same : after ≡ d
 
 -- the command does what it does, or finds no memory
-abbrev pub Takes : Desk → ℕ → commands.Asked → Result Said Misplaced → Desk → Type 0
+abbrev pub Takes : Desk → ℕ → commands.Asked → Result Said Refusal → Desk → Type 0
 Takes d line c r after = ((r, after) ≡ does d line c) ⊎ LacksMemory d c r after
 
 -- the same of one command
-abbrev pub DoesOrNoMemory : Desk → Done → Result Said Misplaced → Desk → Type 0
-DoesOrNoMemory d x r after = ((r, after) ≡ x) ⊎ ((r ≡ Ok (said.refused NoMemory)) × (after ≡ d))
+abbrev pub DoesOrNoMemory : Desk → Done → Result Said Refusal → Desk → Type 0
+DoesOrNoMemory d x r after = ((r, after) ≡ x) ⊎ ((r ≡ Err (refusal.Fault NoMemory)) × (after ≡ d))

@@ -4,11 +4,10 @@ use Rattle.commands.specs.declared.scope.Scope.{Scope}
 use Rattle.model.specs.declared.draw.Pop.{Pop}
 use Rattle.model.specs.declared.draw.Stop.{Stop}
 use Rattle.model.specs.declared.draw.Tried.{Tried}
-use Rattle.model.specs.declared.fault.DrawFault.{DrawFault}
 use Rattle.model.specs.declared.tree.TreeCheck.{TreeCheck}
 use Rattle.session.specs.declared.answer.Answer.{Answer}
 use Rattle.session.specs.declared.answer.Answer.TheVariants as answer
-use Rattle.session.specs.declared.answer.Misplaced.{Misplaced}
+use Rattle.session.specs.declared.answer.Refusal.{Refusal}
 
 -- the answers, with their lists as lists
 pub data Said : Type 0 where
@@ -25,7 +24,6 @@ pub data Said : Type 0 where
   records : List Pop → Said
   tree : List ℕ → Said
   cells : List ℕ → Said
-  refused : DrawFault → Said
   commands : (scope : Scope) → Said
 
 abbrev pub said : Answer → Said
@@ -42,10 +40,9 @@ said (answer.Open v) = open_vertices (vec_items v)
 said (answer.Records v) = records (vec_items v)
 said (answer.Tree v) = tree (vec_items v)
 said (answer.Cells v) = cells (vec_items v)
-said (answer.Refused e) = refused e
 said (answer.Commands scope) = commands scope
 
--- the same of an answer or of what is out of place
-abbrev pub said_so : Result Answer Misplaced → Result Said Misplaced
+-- the same of an answer or a refusal
+abbrev pub said_so : Result Answer Refusal → Result Said Refusal
 said_so (Ok a) = Ok (said a)
-said_so (Err m) = Err m
+said_so (Err e) = Err e

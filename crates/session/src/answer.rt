@@ -1,4 +1,7 @@
 // What a command is answered with.
+ghost use Rattle.std.specs.Prelude.{◌≡◌};
+ghost use Rattle.session.specs.declared.answer.Refusal.TheVariants as refusal;
+
 use commands::scope::Scope;
 use model::draw::{Pop, Stop, Tried};
 use model::fault::DrawFault;
@@ -24,13 +27,12 @@ pub enum Answer {
     Tree(Vec<u16>),
     // The filed cells after reseating.
     Cells(Vec<u16>),
-    Refused(DrawFault),
     // The list of the commands that a sheet of this scope may hold.
     Commands { scope: Scope },
 }
 
 // Why a command cannot be done where it stands.
-#[derive(Clone, Copy)]
+#[derive(Clone, Copy, PartialEq, Eq, Debug)]
 pub enum Misplaced {
     // It needs a plan, and there is none.
     NoPlan,
@@ -48,8 +50,33 @@ pub enum Misplaced {
     NotFiled,
 }
 
+// Why a command is not done.
+#[derive(Clone, Copy, PartialEq, Eq, Debug)]
+pub enum Refusal {
+    // It cannot be done where it stands.
+    Misplaced(Misplaced),
+    // The library refuses it, or there is no memory for it.
+    Fault(DrawFault),
+}
+
+impl From<Misplaced> for Refusal {
+    ghost from_gives = { λ m e. e ≡ refusal.Misplaced m };
+
+    fn from(misplaced: Misplaced) -> Refusal {
+        Refusal::Misplaced(misplaced)
+    }
+}
+
+impl From<DrawFault> for Refusal {
+    ghost from_gives = { λ fault e. e ≡ refusal.Fault fault };
+
+    fn from(fault: DrawFault) -> Refusal {
+        Refusal::Fault(fault)
+    }
+}
+
 // What is to be written before the answer of the command that ends it.
-#[derive(Clone, Copy)]
+#[derive(Clone, Copy, PartialEq, Eq, Debug)]
 pub enum Due {
     // The plan of a table whose links have ended.
     Table { size: u16, root: u16, links: usize },

@@ -1,19 +1,19 @@
 // The draw, and what it shows.
-ghost use Rattle.std.specs.Prelude.{◌≡◌, ◌⊎◌, Err, MatchResult};
+ghost use Rattle.std.specs.Prelude.{◌≡◌, ◌⊎◌, Some, None, Err, MatchResult};
 ghost use Rattle.model.specs.declared.fault.DrawFault.TheVariants.{NoMemory};
 ghost use Rattle.theory.specs.Reseats.{reseats_to};
 ghost use Rattle.plans.specs.Anys.{any_layout};
 ghost use Rattle.desk.specs.Drawings.{drawing_of, ordering_of, heights_shown, open_shown, records_shown};
-ghost use Rattle.session.specs.Desks.{desk_of, opens, orders_by, told_tried, told_ran, tries_at, steps_on, runs_for, shows, shows_tree, reseats, DoesOrNoMemory};
+ghost use Rattle.session.specs.Desks.{desk_of, place_of, planned_of, plan_at, opens, orders_by, tries_at, steps_on, runs_for, shows, shows_tree, reseats, DoesOrNoMemory};
 ghost use Rattle.session.specs.Renewals.{Renewed, Renews};
 ghost use Rattle.session.specs.Said.{heights, open_vertices, records};
-ghost use Rattle.session.specs.Said.{said, said_so};
+ghost use Rattle.session.specs.Said.{said_so};
+ghost use Rattle.session.specs.declared.answer.Misplaced.TheVariants.{NoDraw};
 
 use super::Session;
-use crate::answer::{Answer, Misplaced};
+use crate::answer::{Answer, Misplaced, Refusal};
 use crate::hall::Hall;
 use desk::running::Running;
-use model::draw::{Stop, Tried};
 use model::fault::DrawFault;
 use model::plan::Plan;
 use orders::any::AnyOrder;
@@ -21,34 +21,6 @@ use plans::any::AnyPlan;
 use sources::any::AnyArrows;
 use sources::filed::Filed;
 use std::alloc::Global;
-
-fn told_tried(tried: Result<Tried, DrawFault>) -> Answer
-    ensures { said result ≡ told_tried tried }
-{
-    match tried {
-        Ok(tried) => Answer::Tried(tried),
-        Err(fault) => Answer::Refused(fault),
-    }
-}
-
-fn told_ran(ran: Result<(u32, Stop), DrawFault>) -> Answer
-    ensures { said result ≡ told_ran ran }
-{
-    match ran {
-        Ok((tries, stop)) => Answer::Ran { tries, stop },
-        Err(fault) => Answer::Refused(fault),
-    }
-}
-
-fn copy_of(heap: Global, list: &[u16]) -> Result<Vec<u16>, DrawFault>
-    ensures { MatchResult result (λ v. v.items ≡ list.now) (λ e. e ≡ NoMemory) }
-{
-    let mut copy = Vec::new(heap);
-    let Ok(()) = copy.extend_from_slice(list) else {
-        return Err(DrawFault::NoMemory);
-    };
-    Ok(copy)
-}
 
 // What reseating gives: the arrows with the new cells, these as a list to show, and a fresh draw.
 #[derive(Drop)]
@@ -69,11 +41,9 @@ fn renewed(
 ) -> Result<Renewal, DrawFault>
     ensures { MatchResult result (λ x. Renewed (any_layout plan.now) filed.now (drawing_of running.now) room ports.now x) (λ e. ((reseats_to (any_layout plan.now) (drawing_of running.now).held.draw filed.now.listing.depth filed.now.ports.items ports.now).0 ≡ Err e) ⊎ (e ≡ NoMemory)) }
 {
-    let mut cells = copy_of(heap, filed.ports.as_slice())?;
-    if let Err(fault) = running.reseat(plan, cells.as_mut_slice(), filed.listing.depth, ports) {
-        return Err(fault);
-    }
-    let shown = copy_of(heap, cells.as_slice())?;
+    let mut cells = filed.ports.to_vec(heap)?;
+    running.reseat(plan, cells.as_mut_slice(), filed.listing.depth, ports)?;
+    let shown = cells.to_vec(heap)?;
     let running = Running::open(plan, room, heap)?;
     let filed = Filed {
         listing: filed.listing,
@@ -86,19 +56,23 @@ fn renewed(
     })
 }
 
+// The plan and the arrows that a draw stands over.
+fn drawn<'a>(
+    hall: &'a Hall,
+    arrows: &'a Option<AnyArrows>,
+) -> Result<(&'a AnyPlan, &'a AnyArrows), Misplaced>
+    ensures { MatchResult result (λ x. (plan_at (place_of hall.now) ≡ Some (planned_of x.0.now)) × (arrows.now ≡ Some x.1.now)) (λ e. (e ≡ NoDraw) × ((plan_at (place_of hall.now) ≡ None) ⊎ (arrows.now ≡ None))) }
+{
+    hall.plan().zip(arrows.as_ref()).ok_or(Misplaced::NoDraw)
+}
+
 impl Session {
-    pub(crate) fn open(&mut self, heap: Global) -> Result<Answer, Misplaced>
+    pub(crate) fn open(&mut self, heap: Global) -> Result<Answer, Refusal>
         ensures { DoesOrNoMemory (desk_of self.old) (opens (desk_of self.old)) (said_so result) (desk_of self.new) }
     {
-        let Hall::Ready(plan) = &self.hall else {
-            return Err(Misplaced::NoPlan);
-        };
-        let Some(_) = &self.arrows else {
-            return Err(Misplaced::NoArrows);
-        };
-        let Ok(running) = Running::open(plan, self.room, heap) else {
-            return Ok(Answer::Refused(DrawFault::NoMemory));
-        };
+        let plan = self.hall.plan().ok_or(Misplaced::NoPlan)?;
+        self.arrows.as_ref().ok_or(Misplaced::NoArrows)?;
+        let running = Running::open(plan, self.room, heap)?;
         let answer = Answer::Opened {
             size: plan.size(),
             root: plan.root(),
@@ -107,143 +81,85 @@ impl Session {
         Ok(answer)
     }
 
-    pub(crate) fn set_order(&mut self, order: AnyOrder) -> Result<Answer, Misplaced>
+    pub(crate) fn set_order(&mut self, order: AnyOrder) -> Result<Answer, Refusal>
         ensures { (said_so result, desk_of self.new) ≡ orders_by (desk_of self.old) (ordering_of order) }
     {
-        let Some(running) = &mut self.running else {
-            return Err(Misplaced::NoDraw);
-        };
+        let running = self.running.as_mut().ok_or(Misplaced::NoDraw)?;
         running.set_order(order);
         Ok(Answer::Silent)
     }
 
-    pub(crate) fn try_at(&mut self, v: u16) -> Result<Answer, Misplaced>
+    pub(crate) fn try_at(&mut self, v: u16) -> Result<Answer, Refusal>
         ensures { (said_so result, desk_of self.new) ≡ tries_at (desk_of self.old) v }
     {
-        let Hall::Ready(plan) = &self.hall else {
-            return Err(Misplaced::NoDraw);
-        };
-        let Some(arrows) = &self.arrows else {
-            return Err(Misplaced::NoDraw);
-        };
-        let Some(running) = &mut self.running else {
-            return Err(Misplaced::NoDraw);
-        };
-        Ok(told_tried(running.try_at(plan, arrows, v)))
+        let (plan, arrows) = drawn(&self.hall, &self.arrows)?;
+        let running = self.running.as_mut().ok_or(Misplaced::NoDraw)?;
+        Ok(Answer::Tried(running.try_at(plan, arrows, v)?))
     }
 
-    pub(crate) fn step(&mut self) -> Result<Answer, Misplaced>
+    pub(crate) fn step(&mut self) -> Result<Answer, Refusal>
         ensures { (said_so result, desk_of self.new) ≡ steps_on (desk_of self.old) }
     {
-        let Hall::Ready(plan) = &self.hall else {
-            return Err(Misplaced::NoDraw);
-        };
-        let Some(arrows) = &self.arrows else {
-            return Err(Misplaced::NoDraw);
-        };
-        let Some(running) = &mut self.running else {
-            return Err(Misplaced::NoDraw);
-        };
-        Ok(told_tried(running.step(plan, arrows)))
+        let (plan, arrows) = drawn(&self.hall, &self.arrows)?;
+        let running = self.running.as_mut().ok_or(Misplaced::NoDraw)?;
+        Ok(Answer::Tried(running.step(plan, arrows)?))
     }
 
-    pub(crate) fn run(&mut self, budget: u32) -> Result<Answer, Misplaced>
+    pub(crate) fn run(&mut self, budget: u32) -> Result<Answer, Refusal>
         ensures { (said_so result, desk_of self.new) ≡ runs_for (desk_of self.old) budget }
     {
-        let Hall::Ready(plan) = &self.hall else {
-            return Err(Misplaced::NoDraw);
-        };
-        let Some(arrows) = &self.arrows else {
-            return Err(Misplaced::NoDraw);
-        };
-        let Some(running) = &mut self.running else {
-            return Err(Misplaced::NoDraw);
-        };
-        Ok(told_ran(running.run(plan, arrows, budget)))
+        let (plan, arrows) = drawn(&self.hall, &self.arrows)?;
+        let running = self.running.as_mut().ok_or(Misplaced::NoDraw)?;
+        let (tries, stop) = running.run(plan, arrows, budget)?;
+        Ok(Answer::Ran { tries, stop })
     }
 
-    pub(crate) fn heights(&self, heap: Global) -> Result<Answer, Misplaced>
+    pub(crate) fn heights(&self, heap: Global) -> Result<Answer, Refusal>
         ensures { DoesOrNoMemory (desk_of self.now) (shows (desk_of self.now) (λ x. heights (heights_shown x))) (said_so result) (desk_of self.now) }
     {
-        let Some(running) = &self.running else {
-            return Err(Misplaced::NoDraw);
-        };
-        match running.heights(heap) {
-            Ok(heights) => Ok(Answer::Heights(heights)),
-            Err(fault) => Ok(Answer::Refused(fault)),
-        }
+        let running = self.running.as_ref().ok_or(Misplaced::NoDraw)?;
+        Ok(Answer::Heights(running.heights(heap)?))
     }
 
-    pub(crate) fn open_vertices(&self, heap: Global) -> Result<Answer, Misplaced>
+    pub(crate) fn open_vertices(&self, heap: Global) -> Result<Answer, Refusal>
         ensures { DoesOrNoMemory (desk_of self.now) (shows (desk_of self.now) (λ x. open_vertices (open_shown x))) (said_so result) (desk_of self.now) }
     {
-        let Some(running) = &self.running else {
-            return Err(Misplaced::NoDraw);
-        };
-        match running.open_vertices(heap) {
-            Ok(vertices) => Ok(Answer::Open(vertices)),
-            Err(fault) => Ok(Answer::Refused(fault)),
-        }
+        let running = self.running.as_ref().ok_or(Misplaced::NoDraw)?;
+        Ok(Answer::Open(running.open_vertices(heap)?))
     }
 
-    pub(crate) fn records(&self, heap: Global) -> Result<Answer, Misplaced>
+    pub(crate) fn records(&self, heap: Global) -> Result<Answer, Refusal>
         ensures { DoesOrNoMemory (desk_of self.now) (shows (desk_of self.now) (λ x. records (records_shown x))) (said_so result) (desk_of self.now) }
     {
-        let Some(running) = &self.running else {
-            return Err(Misplaced::NoDraw);
-        };
-        match running.records(heap) {
-            Ok(records) => Ok(Answer::Records(records)),
-            Err(fault) => Ok(Answer::Refused(fault)),
-        }
+        let running = self.running.as_ref().ok_or(Misplaced::NoDraw)?;
+        Ok(Answer::Records(running.records(heap)?))
     }
 
-    pub(crate) fn tree(&self, heap: Global) -> Result<Answer, Misplaced>
+    pub(crate) fn tree(&self, heap: Global) -> Result<Answer, Refusal>
         ensures { DoesOrNoMemory (desk_of self.now) (shows_tree (desk_of self.now)) (said_so result) (desk_of self.now) }
     {
-        let Hall::Ready(plan) = &self.hall else {
-            return Err(Misplaced::NoDraw);
-        };
-        let Some(arrows) = &self.arrows else {
-            return Err(Misplaced::NoDraw);
-        };
-        let Some(running) = &self.running else {
-            return Err(Misplaced::NoDraw);
-        };
-        match running.tree(plan, arrows, heap) {
-            Ok(ports) => Ok(Answer::Tree(ports)),
-            Err(fault) => Ok(Answer::Refused(fault)),
-        }
+        let (plan, arrows) = drawn(&self.hall, &self.arrows)?;
+        let running = self.running.as_ref().ok_or(Misplaced::NoDraw)?;
+        Ok(Answer::Tree(running.tree(plan, arrows, heap)?))
     }
 
-    fn renewal(&self, heap: Global, ports: &[u16]) -> Result<Result<Renewal, DrawFault>, Misplaced>
+    fn renewal(&self, heap: Global, ports: &[u16]) -> Result<Renewal, Refusal>
         ensures { Renews (desk_of self.now) ports.now result }
     {
-        let Hall::Ready(plan) = &self.hall else {
-            return Err(Misplaced::NoDraw);
-        };
-        let Some(arrows) = &self.arrows else {
-            return Err(Misplaced::NoDraw);
-        };
-        let Some(running) = &self.running else {
-            return Err(Misplaced::NoDraw);
-        };
+        let (plan, arrows) = drawn(&self.hall, &self.arrows)?;
+        let running = self.running.as_ref().ok_or(Misplaced::NoDraw)?;
         let AnyArrows::Filed(filed) = arrows else {
-            return Err(Misplaced::NotFiled);
+            return Err(Misplaced::NotFiled.into());
         };
-        Ok(renewed(plan, filed, running, self.room, heap, ports))
+        Ok(renewed(plan, filed, running, self.room, heap, ports)?)
     }
 
-    pub(crate) fn reseat(&mut self, heap: Global, ports: &[u16]) -> Result<Answer, Misplaced>
+    pub(crate) fn reseat(&mut self, heap: Global, ports: &[u16]) -> Result<Answer, Refusal>
         ensures { DoesOrNoMemory (desk_of self.old) (reseats (desk_of self.old) ports.now) (said_so result) (desk_of self.new) }
     {
-        match self.renewal(heap, ports)? {
-            Ok(renewal) => {
-                self.arrows = Some(AnyArrows::Filed(renewal.filed));
-                self.running = Some(renewal.running);
-                Ok(Answer::Cells(renewal.shown))
-            }
-            Err(fault) => Ok(Answer::Refused(fault)),
-        }
+        let renewal = self.renewal(heap, ports)?;
+        self.arrows = Some(AnyArrows::Filed(renewal.filed));
+        self.running = Some(renewal.running);
+        Ok(Answer::Cells(renewal.shown))
     }
 }

@@ -1,16 +1,13 @@
 // Plans and arrows.
-ghost use Rattle.std.specs.Prelude.{◌≡◌};
+ghost use Rattle.std.specs.Prelude.{◌≡◌, Ok};
 ghost use Rattle.commands.specs.Answers.{asked};
-ghost use Rattle.session.specs.Desks.{desk_of, bare, closes, before, goes_on, place_of, new_plan, begins_complete, BeginsTable, adds_link, reported, checks, takes_seed, makes_room};
+ghost use Rattle.session.specs.Desks.{desk_of, bare, closes, before, goes_on, place_of, new_plan, begins_complete, BeginsTable, adds_link, checks, takes_seed, makes_room};
 ghost use Rattle.session.specs.Said.{said, said_so};
 
 use super::Session;
-use crate::answer::{Answer, Due, Misplaced};
+use crate::answer::{Answer, Due, Misplaced, Refusal};
 use crate::hall::Hall;
 use commands::command::Command;
-use model::fault::DrawFault;
-use model::plan::Plan;
-use model::tree::TreeCheck;
 use plans::any::AnyPlan;
 use plans::complete::Complete;
 use plans::table::Table;
@@ -31,17 +28,8 @@ fn goes_on(command: &Command, hall: &Hall) -> bool
 {
     match command {
         Command::Link { .. } => matches!(hall, Hall::Linking(_)),
-        Command::Cells { .. } => matches!(hall, Hall::Filing(_, _)),
+        Command::Cells { .. } => matches!(hall, Hall::Planned(_, Some(_))),
         _ => false,
-    }
-}
-
-fn reported(checked: Result<TreeCheck, DrawFault>) -> Answer
-    ensures { said result ≡ reported checked }
-{
-    match checked {
-        Ok(tree) => Answer::Checked(tree),
-        Err(fault) => Answer::Refused(fault),
     }
 }
 
@@ -61,25 +49,9 @@ impl Session {
     pub fn close(&mut self) -> Option<Due>
         ensures { (result, desk_of self.new) ≡ closes (desk_of self.old) }
     {
-        match mem::replace(&mut self.hall, Hall::Empty) {
-            Hall::Linking(table) => {
-                let due = Due::Table {
-                    size: table.size(),
-                    root: table.root(),
-                    links: table.links().len(),
-                };
-                self.hall = Hall::Ready(AnyPlan::Table(table));
-                Some(due)
-            }
-            Hall::Filing(plan, pending) => {
-                self.hall = Hall::Ready(plan);
-                Some(Due::FewCells { line: pending.line })
-            }
-            other => {
-                self.hall = other;
-                None
-            }
-        }
+        let (due, hall) = mem::replace(&mut self.hall, Hall::Empty).closed();
+        self.hall = hall;
+        due
     }
 
     // What is due before the command is done.
@@ -102,70 +74,54 @@ impl Session {
         self.running = None;
     }
 
-    pub(crate) fn complete(&mut self, size: u16, root: u16) -> Result<Answer, Misplaced>
+    pub(crate) fn complete(&mut self, size: u16, root: u16) -> Result<Answer, Refusal>
         ensures { (said_so result, desk_of self.new) ≡ begins_complete (desk_of self.old) size root }
     {
-        match Complete::new(size, root) {
-            Ok(plan) => {
-                self.put(Hall::Ready(AnyPlan::Complete(plan)));
-                Ok(Answer::Complete { size, root })
-            }
-            Err(fault) => Ok(Answer::Refused(fault)),
-        }
+        let plan = Complete::new(size, root)?;
+        self.put(Hall::Planned(AnyPlan::Complete(plan), None));
+        Ok(Answer::Complete { size, root })
     }
 
-    pub(crate) fn table(&mut self, heap: Global, size: u16, root: u16) -> Result<Answer, Misplaced>
+    pub(crate) fn table(&mut self, heap: Global, size: u16, root: u16) -> Result<Answer, Refusal>
         ensures { BeginsTable (desk_of self.old) size root (said_so result) (desk_of self.new) }
     {
-        match Table::new(heap, size, root) {
-            Ok(table) => {
-                self.put(Hall::Linking(table));
-                Ok(Answer::Silent)
-            }
-            Err(fault) => Ok(Answer::Refused(fault)),
-        }
+        let table = Table::new(heap, size, root)?;
+        self.put(Hall::Linking(table));
+        Ok(Answer::Silent)
     }
 
-    pub(crate) fn link(&mut self, from: u16, to: u16) -> Result<Answer, Misplaced>
+    pub(crate) fn link(&mut self, from: u16, to: u16) -> Result<Answer, Refusal>
         ensures { (said_so result, desk_of self.new) ≡ adds_link (desk_of self.old) from to }
     {
         let Hall::Linking(table) = &mut self.hall else {
-            return Err(Misplaced::NoTable);
+            return Err(Misplaced::NoTable.into());
         };
-        match table.link(from, to) {
-            Ok(()) => Ok(Answer::Silent),
-            Err(fault) => Ok(Answer::Refused(fault)),
-        }
+        table.link(from, to)?;
+        Ok(Answer::Silent)
     }
 
-    pub(crate) fn check(&self, ports: &[u16]) -> Result<Answer, Misplaced>
+    pub(crate) fn check(&self, ports: &[u16]) -> Result<Answer, Refusal>
         ensures { (said_so result, desk_of self.now) ≡ checks (desk_of self.now) ports.now }
     {
-        let Hall::Ready(plan) = &self.hall else {
-            return Err(Misplaced::NoPlan);
-        };
-        Ok(reported(check_tree(plan, ports)))
+        let plan = self.hall.plan().ok_or(Misplaced::NoPlan)?;
+        Ok(Answer::Checked(check_tree(plan, ports)?))
     }
 
-    pub(crate) fn seeded(&mut self, seed: u64, depth: u16) -> Result<Answer, Misplaced>
+    pub(crate) fn seeded(&mut self, seed: u64, depth: u16) -> Result<Answer, Refusal>
         ensures { (said_so result, desk_of self.new) ≡ takes_seed (desk_of self.old) seed depth }
     {
-        let Hall::Ready(_) = &self.hall else {
-            return Err(Misplaced::NoPlan);
-        };
-        if let Err(fault) = check_depth(depth) {
-            return Ok(Answer::Refused(fault));
-        }
+        self.hall.plan().ok_or(Misplaced::NoPlan)?;
+        check_depth(depth)?;
         let below = Seeded { seed };
         self.arrows = Some(AnyArrows::Seeded(Cap { depth, below }));
         self.running = None;
         Ok(Answer::Seeded { seed, depth })
     }
 
-    pub(crate) fn make_room(&mut self, records: u16) -> Result<Answer, Misplaced>
-        ensures { (said_so result, desk_of self.new) ≡ makes_room (desk_of self.old) records }
+    pub(crate) fn make_room(&mut self, records: u16) -> Answer
+        ensures { (Ok (said result), desk_of self.new) ≡ makes_room (desk_of self.old) records }
     {
         self.room = records;
-        Ok(Answer::Silent)
+        Answer::Silent
     }
 }

@@ -5,7 +5,7 @@ ghost use Rattle.session.specs.Desks.{desk_of, Takes};
 ghost use Rattle.session.specs.Said.{said_so};
 
 use super::Session;
-use crate::answer::{Answer, Misplaced};
+use crate::answer::{Answer, Refusal};
 use commands::command::Command;
 use orders::any::AnyOrder;
 use orders::filed::FiledOrder;
@@ -14,7 +14,7 @@ use std::alloc::Global;
 
 impl Session {
     // Does the command that stands at this line. Where it is refused or out of place, nothing changes.
-    pub fn take(&mut self, heap: Global, line: usize, command: Command) -> Result<Answer, Misplaced>
+    pub fn take(&mut self, heap: Global, line: usize, command: Command) -> Result<Answer, Refusal>
         ensures { Takes (desk_of self.old) line (asked command) (said_so result) (desk_of self.new) }
     {
         match command {
@@ -25,7 +25,7 @@ impl Session {
             Command::Filed { depth, ports } => self.filed(line, depth, ports),
             Command::Cells { ports } => self.cells(ports.as_slice()),
             Command::Seeded { seed, depth } => self.seeded(seed, depth),
-            Command::Room { records } => self.make_room(records),
+            Command::Room { records } => Ok(self.make_room(records)),
             Command::Open => self.open(heap),
             Command::Walk => self.set_order(AnyOrder::Walk(Walk::new())),
             Command::Listed { vertices } => {

@@ -1,13 +1,15 @@
-use Rattle.std.proofs.Common.{Ok, Err, refl, ap, inl, inr, ⊎_elim}
-use Rattle.session.proofs.Desking.{tree_told}
-use Rattle.session.specs.Said.{refused}
+use Rattle.std.proofs.Common.{sym, ap, ◌∙◌, inl, arith}
+use Rattle.std.proofs.lemmas.Grind.{common_steps}
+use Rattle.std.specs.Option.{option_copied}
+use Rattle.session.proofs.Desking.{tree_told, no_tree_told}
 use Rattle.session.proofs.session.Session.tree.Goals as goal
 
-pub returns-in-Ok : goal.returns-in-Ok
-returns-in-Ok c = inl (tree_told c.args.self.now _ _ _ c.in-Ready.is c.in-Some.is c.in-Some-running.is _ c.in-Ok.ensures)
+pub returns-in_err-tree : goal.returns-in_err-tree
+returns-in_err-tree c =
+    let is_x = sym c.as_ref.ensures.value ∙ ap option_copied c.in_ok-running.ensures.ok_part in
+    no_tree_told c.args.self.now _ _ _ c.in_ok-plan.ensures.0 c.in_ok-plan.ensures.1 is_x _ c.in_err-tree.ensures _ (grind (arith, common_steps))
 
-pub returns-in-Err : goal.returns-in-Err
-returns-in-Err c = ⊎_elim
-    (λ is. inl (tree_told c.args.self.now _ _ _ c.in-Ready.is c.in-Some.is c.in-Some-running.is (Err c.in-Err.fault) is))
-    (λ none. inr (ap (λ e. Ok (refused e)) none, refl))
-    c.in-Err.ensures
+pub returns : goal.returns
+returns c =
+    let is_x = sym c.as_ref.ensures.value ∙ ap option_copied c.in_ok-running.ensures.ok_part in
+    inl (tree_told c.args.self.now _ _ _ c.in_ok-plan.ensures.0 c.in_ok-plan.ensures.1 is_x _ c.in_ok-tree.ensures)
