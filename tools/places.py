@@ -34,7 +34,7 @@ SPLIT = re.compile(r"^(\s*)(?:pub(?:\(crate\))? )?(?:final )?fn (\w+)", re.M)
 
 
 def sources():
-    for folder, dirs, files in sorted(os.walk(os.path.join(top, "crates"))):
+    for folder, dirs, files in os.walk(os.path.join(top, "crates")):
         dirs[:] = sorted(d for d in dirs if d not in ("out", "proofs", "specs"))
         for f in sorted(files):
             path = os.path.join(folder, f)
