@@ -1,11 +1,8 @@
-use Rattle.std.proofs.Common.{◌<◌, length, sym, ◌∙◌, inl, arith}
-use Rattle.trees.proofs.Walks.{begins, reached, lost, at_mark, nowhere, walks_on, blanks_fall}
+use Rattle.std.proofs.Common.{◌<◌, length, sym, ◌∙◌, arith}
+use Rattle.trees.proofs.Walks.{lost, at_mark, nowhere, walks_on, blanks_fall}
 use Rattle.trees.proofs.check.Ported.reaches_root.Given as given
 use Rattle.trees.proofs.check.Ported.reaches_root.Goals as goal
 use Rattle.trees.proofs.check.Ported.reaches_root.Goals.{In-Some-target}
-
-pub loop-here-init : goal.loop-here-init
-loop-here-init g c = begins _ _ _ _ c.requires.within c.requires.marked
 
 pub returns-in-Some : goal.returns-in-Some
 returns-in-Some g c = at_mark _ _ _ (g.P.Plan.sound c.args.self.now.plan.now) _ _ c.loop-here.invariant _ c.in-Some.is
@@ -27,6 +24,3 @@ loop-here-preserved g c =
     walks_on _ _ _ (g.P.Plan.sound c.args.self.now.plan.now) _ _ c.loop-here.invariant
     (λ same. c.loop-here-test.true (same ∙ sym c.root-root.ensures))
     _ (inside g c) c.in_default.is (sym c.target.ensures ∙ c.in-Some-target.is)
-
-pub returns : goal.returns
-returns g c = reached _ _ _ (g.P.Plan.sound c.args.self.now.plan.now) _ _ c.loop-here.invariant (inl (c.loop-here-test.false ∙ c.root-root.ensures))
