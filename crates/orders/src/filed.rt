@@ -1,7 +1,7 @@
 // The order that a list of vertices gives.
 ghost use Rattle.std.specs.Prelude.{◌≡◌};
 ghost use Rattle.model.specs.Orders.{open_marks};
-ghost use Rattle.model.specs.Walks.{if_open, filed_at, next_place};
+ghost use Rattle.model.specs.Walks.{filed_at, next_place};
 ghost use Rattle.orders.specs.Lawful.{filed_lawful};
 ghost use Rattle.orders.specs.Told.{filed_told, filed_pick};
 
@@ -28,19 +28,9 @@ impl FiledOrder {
     fn at_place(&self, entries: &Entries) -> Option<u16>
         ensures { result ≡ filed_at self.now.vertices.items self.now.place (open_marks entries.now.list.items) }
     {
-        if self.place < self.vertices.len() {
-            if_open(entries, self.vertices[self.place])
-        } else {
-            None
-        }
+        let v = *self.vertices.get(self.place)?;
+        is_open(entries, v).then_some(v)
     }
-}
-
-// The vertex, if it is open.
-fn if_open(entries: &Entries, v: u16) -> Option<u16>
-    ensures { result ≡ if_open (open_marks entries.now.list.items) v }
-{
-    if is_open(entries, v) { Some(v) } else { None }
 }
 
 // The next place of a list of `count` vertices.

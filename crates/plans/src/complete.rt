@@ -1,5 +1,5 @@
 // The complete plan: from every vertex one port to each of the others.
-ghost use Rattle.std.specs.Prelude.{◌≡◌, ℕ, ◌+◌, ◌-◌, ◌<◌, ◌≤◌, if◌then◌else◌, nat_lt};
+ghost use Rattle.std.specs.Prelude.{◌≡◌, ℕ, ◌<◌, ◌≤◌};
 ghost use Rattle.model.specs.Answers.{answered};
 ghost use Rattle.plans.specs.Answers.{made_as};
 ghost use Rattle.plans.specs.Completes.{complete};
@@ -29,21 +29,6 @@ impl Complete {
     }
 }
 
-// One port to each vertex but `v` itself.
-fn ports_at(size: u16, v: u16) -> u16
-    ensures { result ≡ (if nat_lt v size then size - 1 else 0) }
-{
-    if v < size { size - 1 } else { 0 }
-}
-
-// The vertex that stands at the port's place once `v` is passed over.
-fn passing(v: u16, port: u16) -> u16
-    requires { port < 1024 }
-    ensures { result ≡ (if nat_lt port v then port else port + 1) }
-{
-    if port < v { port } else { port + 1 }
-}
-
 impl Plan for Complete {
     ghost layout = { λ p. complete p.size p.root };
 
@@ -57,15 +42,17 @@ impl Plan for Complete {
         self.root
     }
 
+    #[tactic(auto, using(crate::specs::Others::others_length))]
     fn degree(&self, v: u16) -> u16 {
-        ports_at(self.size, v)
+        if v < self.size { self.size - 1 } else { 0 }
     }
 
+    #[tactic(auto, using(crate::proofs::Others::nth_others))]
     fn target(&self, v: u16, port: u16) -> Option<u16> {
-        if port < self.degree(v) {
-            Some(passing(v, port))
-        } else {
-            None
+        if port >= self.degree(v) {
+            return None;
         }
+        // `v` is passed over
+        Some(if port < v { port } else { port + 1 })
     }
 }

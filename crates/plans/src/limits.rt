@@ -8,11 +8,11 @@ use model::fault::DrawFault;
 pub(crate) fn check_limits(size: u16, root: u16) -> Result<(), DrawFault>
     ensures { result ≡ answered (plan_fault size root) tt }
 {
-    if size < 1 || size > 1024 {
-        Err(DrawFault::Limit)
-    } else if root >= size {
-        Err(DrawFault::Root)
-    } else {
-        Ok(())
+    if !(1..=1024).contains(&size) {
+        return Err(DrawFault::Limit);
     }
+    if root >= size {
+        return Err(DrawFault::Root);
+    }
+    Ok(())
 }

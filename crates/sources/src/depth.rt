@@ -31,11 +31,7 @@ fn cells_fit(size: u16, depth: u16) -> bool
 fn limit_unless(fits: bool) -> Result<(), DrawFault>
     ensures { result ≡ answered (limit_unless fits) tt }
 {
-    if fits {
-        Ok(())
-    } else {
-        Err(DrawFault::Limit)
-    }
+    if fits { Ok(()) } else { Err(DrawFault::Limit) }
 }
 
 // A depth is 1 to 4,096.

@@ -37,7 +37,11 @@ impl Listing {
     pub fn rank(&self, v: u16) -> u16
         ensures { result ≡ rank self.now.root v }
     {
-        if v < self.root { v } else { v.saturating_sub(1) }
+        if v < self.root {
+            v
+        } else {
+            v.saturating_sub(1)
+        }
     }
 
     // There is no cell at the root, at what is no vertex, and from the depth on.

@@ -1,8 +1,8 @@
 // What a table answers, and how it takes a link.
-ghost use Rattle.std.specs.Prelude.{◌≡◌, ◌<◌, length, vec_len, OnErr, slice_index_or};
+ghost use Rattle.std.specs.Prelude.{◌≡◌, ◌<◌, length, map, OnErr};
 ghost use Rattle.model.specs.Answers.{answered};
 ghost use Rattle.plans.specs.Answers.{made_as, MadeOrNoMemory};
-ghost use Rattle.plans.specs.Cablings.{cabled, leads_from, last_start, may_follow, link_fault, linked, no_link, unlinked};
+ghost use Rattle.plans.specs.Cablings.{cabled, end_of, leads_from, last_start, may_follow, link_fault, linked, unlinked};
 ghost use Rattle.plans.specs.Limits.{plan_fault};
 ghost use Rattle.plans.specs.Soundness.{table_sound};
 ghost use Rattle.plans.specs.Spans.{span_at, grown};
@@ -68,30 +68,22 @@ impl Table {
     fn last_start(&self) -> u16
         ensures { result ≡ last_start self.now.links.items }
     {
-        let count = self.links.len();
-        if count == 0 {
-            0
-        } else {
-            self.links[count - 1].from
-        }
-    }
-
-    fn end_of(&self, at: usize) -> u16
-        requires { at < vec_len self.now.links }
-        ensures { result ≡ (slice_index_or self.now.links.items at no_link).to }
-    {
-        self.links[at].to
+        self.links.last().map_or(0, |link| link.from)
     }
 
     // The span of `v`, an empty one for a vertex that the table lacks.
     fn span(&self, v: u16) -> Span
         ensures { result ≡ span_at self.now.spans.items v }
     {
-        if v < self.size {
-            self.spans[v as usize]
-        } else {
-            NO_SPAN
-        }
+        self.spans.get(v as usize).copied().unwrap_or(NO_SPAN)
+    }
+
+    fn links_from(&self, v: u16) -> &[Link]
+        ensures { map end_of result.now ≡ leads_from self.now.links.items v }
+    {
+        let span = self.span(v);
+        let first = span.first as usize;
+        &self.links[first..first + span.degree as usize]
     }
 
     fn ports_at(&self, v: u16) -> u16
@@ -100,12 +92,13 @@ impl Table {
         self.span(v).degree
     }
 
-    // `&` and not `&&`: each part may be asked whatever the others say.
     fn may_follow(&self, from: u16, to: u16) -> bool
         ensures { result ≡ may_follow (cabling_of self.now) from to }
     {
-        (from < self.size)
-            & ((to < self.size) & ((self.last_start() <= from) & (self.ports_at(from) < 1023)))
+        from < self.size
+            && to < self.size
+            && self.last_start() <= from
+            && self.ports_at(from) < 1023
     }
 
     fn check_link(&self, from: u16, to: u16) -> Result<(), DrawFault>
@@ -152,11 +145,7 @@ impl Plan for Table {
     }
 
     fn target(&self, v: u16, port: u16) -> Option<u16> {
-        let span = self.span(v);
-        if port < span.degree {
-            Some(self.end_of(span.first as usize + port as usize))
-        } else {
-            None
-        }
+        let link = self.links_from(v).get(port as usize)?;
+        Some(link.to)
     }
 }

@@ -1,14 +1,9 @@
-use Rattle.std.proofs.Common.{◌≡◌, length, vec_items, sym, ap, ◌∙◌, arith}
-use Rattle.plans.proofs.Telling.{Taken, kept_told, span_free, taken}
+use Rattle.std.proofs.Common.{◌≡◌, length, vec_items, ap, ◌∙◌, arith}
+use Rattle.plans.proofs.Telling.{Taken, kept_told, taken}
 use Rattle.plans.proofs.table.Table.link.Goals as goal
 use Rattle.plans.specs.Spans.{grown, span_at}
 use Rattle.plans.specs.Tables.{cabling_of}
 use Rattle.plans.specs.declared.table.Span.{Span}
-
-pub grown-span-requires : goal.grown-span-requires
-grown-span-requires c =
-    let t = c.args.self.now in
-    span_free t c.args.from c.args.to (taken (cabling_of t) c.args.from c.args.to c.in_ok-check_link.ensures) c.span.result c.span.ensures
 
 pub invariant_of-self : goal.invariant_of-self
 invariant_of-self c =
