@@ -2,5 +2,4 @@
 
 #![tactic(auto)]
 
-mod lists;
 pub mod running;

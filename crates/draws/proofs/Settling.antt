@@ -75,12 +75,16 @@ module _ (arrow : ℕ → Option ℕ) (start : List Entry) (t : Trail) where
         by zero is enough = absurd (omega (arith, few))
         by (suc k) is enough = (k, is, enough)
 
+    -- the vertices of the trail are settled, and there are so many
+    abbrev pub Done : List Entry → ℕ → Type 0
+    Done entries n = record { after : entries ≡ changed shut t.path start; count : n ≡ length t.path }
+
     -- at a settled vertex the trail has ended: it is none of its own
-    pub stops : t.loop ≡ None → is_settled es here ≡ true → (es ≡ changed shut t.path start) × (count ≡ length t.path)
+    pub stops : t.loop ≡ None → is_settled es here ≡ true → Done es count
     stops straight shut_here = let (k, turns, enough) = one_turn in by k (before here) refl (among here s.done) refl turns (or_cases (among here s.done) (before here) (sym mark_here ∙ shut_here))
       where
-        by : (k : ℕ) (b : Bool) → before here ≡ b → (on : Bool) → among here s.done ≡ on → turn k b on (arrow here) ≡ t → (among here s.done ≡ true) ⊎ (before here ≡ true) → (es ≡ changed shut t.path start) × (count ≡ length t.path)
-        by k true is on there turns which = (s.entries ∙ ap (λ x. changed shut x.path start) turns, s.counted ∙ ap (λ x. length x.path) turns)
+        by : (k : ℕ) (b : Bool) → before here ≡ b → (on : Bool) → among here s.done ≡ on → turn k b on (arrow here) ≡ t → (among here s.done ≡ true) ⊎ (before here ≡ true) → Done es count
+        by k true is on there turns which = record { after = s.entries ∙ ap (λ x. changed shut x.path start) turns; count = s.counted ∙ ap (λ x. length x.path) turns }
         by k false is true there turns which = absurd (none_some t.loop (from_on here s.done) straight (ap (λ x. x.loop) (sym turns)))
         by k false is false there turns which = absurd (⊎_elim (both_ways _ there) (both_ways _ is) which)
 
@@ -107,11 +111,11 @@ module _ (arrow : ℕ → Option ℕ) (start : List Entry) (t : Trail) where
             by b is_b on is_on x is_x turned = (λ i. turn k (sym is_b i) (sym is_on i) (sym is_x i)) ∙ turned
 
         -- behind a dry vertex the trail has ended
-        pub ends_dry : arrow here ≡ None → (after ≡ changed shut t.path start) × (count + 1 ≡ length t.path)
+        pub ends_dry : arrow here ≡ None → Done after (count + 1)
         ends_dry none =
             let (k, turns, enough) = one_turn in
             let ended : record { path = s.done ++ here ∷ []; loop = None } ≡ t = turned_to k turns None none in
-            (one_more ∙ ap (λ x. changed shut x.path start) ended, sym pushed ∙ ap (λ x. length x.path) ended)
+            record { after = one_more ∙ ap (λ x. changed shut x.path start) ended; count = sym pushed ∙ ap (λ x. length x.path) ended }
 
         pub goes_on : (next : ℕ) → next < length start → arrow here ≡ Some next → Settling next (count + 1) after
         goes_on next inside_next some =

@@ -1,12 +1,14 @@
 -- What a try finds on its way decides what it does. Assumes nothing.
-use Rattle.std.proofs.Common.{◌≡◌, ℕ, suc, ◌<◌, ◌≤◌, Bool, true, false, cond, not, ltb, List, [], ◌∷◌, length, Some, None, Option, Result, sym, refl, ap, ◌∙◌, subst, arith, MatchOption}
+use Rattle.std.proofs.Common.{◌≡◌, ℕ, suc, ◌<◌, ◌≤◌, Bool, true, false, cond, not, ltb, List, [], ◌∷◌, length, Some, None, Ok, Option, Result, sym, refl, ap, ◌∙◌, subst, arith, MatchOption}
+use Rattle.std.proofs.lemmas.Bool.{lt-ltb}
 use Rattle.model.specs.Arrows.{Cells}
 use Rattle.model.specs.Layouts.{Layout, Sound}
 use Rattle.model.specs.declared.draw.Entry.{Entry}
 use Rattle.model.specs.declared.draw.Tried.{Tried}
+use Rattle.model.specs.declared.draw.Tried.TheVariants.{Settled}
 use Rattle.model.specs.declared.fault.DrawFault.{DrawFault}
 use Rattle.model.specs.declared.fault.DrawFault.TheVariants as fault
-use Rattle.theory.specs.Calls.{first_fault, refused, settles, by_trail, tries}
+use Rattle.theory.specs.Calls.{After, first_fault, refused, settles, by_trail, tries}
 use Rattle.theory.specs.Cycles.{among, Cycle}
 use Rattle.theory.specs.Draws.{height_of, is_settled, changed, higher, Held, is_of, shown, Trail, trail, turned}
 use Rattle.theory.specs.Ends.{if_some}
@@ -57,22 +59,38 @@ module _ (p : Layout) (a : Cells) (sound : Sound p) where
         by None is ended = is
         by (Some l) is closes = let (m, there, rounds) = closes_rounds (open_arrows p a es) v (turned l) closes in absurd (not_both (open_arrows p a es) v m rounds out)
 
-  module _ (h : Held) (v : ℕ) (of_plan : is_of p h.draw ≡ true) (low : ltb v p.size ≡ true) (open_v : is_settled h.draw.entries v ≡ false) where
+  module _ (h : Held) (v : ℕ) (of_plan : is_of p h.draw ≡ true) (low : v < p.size) (open_v : is_settled h.draw.entries v ≡ false) where
     abbrev t : Trail
     t = trail p a h.draw.entries v
 
     goes : tries p a v h ≡ by_trail h t
-    goes = by (is_of p h.draw) of_plan (ltb v p.size) low (is_settled h.draw.entries v) open_v
+    goes = by (is_of p h.draw) of_plan (ltb v p.size) (lt-ltb v p.size low) (is_settled h.draw.entries v) open_v
       where
         by : (b : Bool) → b ≡ true → (s : Bool) → s ≡ true → (o : Bool) → o ≡ false → if_some (first_fault ((not b, fault.OtherPlan) ∷ (not s, fault.Vertex v) ∷ (o, fault.AlreadySettled v) ∷ [])) (by_trail h t) (λ e. refused h e) ≡ by_trail h t
         by b is_b s is_s o is_o = λ i. if_some (first_fault ((not (is_b i), fault.OtherPlan) ∷ (not (is_s i), fault.Vertex v) ∷ (is_o i, fault.AlreadySettled v) ∷ [])) (by_trail h t) (λ e. refused h e)
 
-    pub tries_pops : (l : List ℕ) → t.loop ≡ Some l → tries p a v h ≡ popping h (turned l)
-    tries_pops l is = goes ∙ ap (λ o. if_some o (settles h t.path) (λ x. popping h (turned x))) is
+    goes_as : (o : Option (List ℕ)) → t.loop ≡ o → tries p a v h ≡ if_some o (settles h t.path) (λ l. popping h (turned l))
+    goes_as o is = goes ∙ ap (λ x. if_some x (settles h t.path) (λ l. popping h (turned l))) is
 
-    pub tries_settles : t.loop ≡ None → tries p a v h ≡ settles h t.path
-    tries_settles is = goes ∙ ap (λ o. if_some o (settles h t.path) (λ x. popping h (turned x))) is
+    -- what the try leaves and answers, and its law
+    abbrev pub Does : Held → Result Tried DrawFault → Type 0
+    Does after r = record { held : after ≡ (tries p a v h).held; answer : r ≡ (tries p a v h).answer; law : TryLaw p a v h after r }
 
-  -- the law holds of what a try defined so leaves and answers
-  pub law_of : (v : ℕ) (h after : Held) (r : Result Tried DrawFault) → after ≡ (tries p a v h).held → r ≡ (tries p a v h).answer → TryLaw p a v h after r
-  law_of v h after r is_held_lem is_answer = subst (λ x. TryLaw p a v h x r) (sym is_held_lem) (subst (λ x. TryLaw p a v h (tries p a v h).held x) (sym is_answer) (try_law p a v h sound))
+    does : (x : After (Result Tried DrawFault)) → tries p a v h ≡ x → (after : Held) (r : Result Tried DrawFault) → after ≡ x.held → r ≡ x.answer → Does after r
+    does x is after r left answers =
+        let held : after ≡ (tries p a v h).held = left ∙ ap (λ (y : After (Result Tried DrawFault)). y.held) (sym is) in
+        let answer : r ≡ (tries p a v h).answer = answers ∙ ap (λ (y : After (Result Tried DrawFault)). y.answer) (sym is) in
+        record { held = held; answer = answer; law = subst (λ y. TryLaw p a v h y r) (sym held) (subst (λ y. TryLaw p a v h (tries p a v h).held y) (sym answer) (try_law p a v h sound)) }
+
+    module _ (on : ℕ) (rounds : Rounds (open_arrows p a h.draw.entries) v on) where
+      pub cycle_there : (c : List ℕ) × Cycle (shown p a h.draw.entries) c × (among on c ≡ true)
+      cycle_there = let (l, is, cyc, there) = comes_to_cycle h.draw.entries v low open_v on rounds in (turned l, cyc, there)
+
+      pub pops_there : (after : Held) (r : Result Tried DrawFault) → ((c : List ℕ) → Cycle (shown p a h.draw.entries) c → among on c ≡ true → (after ≡ (popping h c).held) × (r ≡ (popping h c).answer)) → Does after r
+      pops_there after r pops =
+          let (l, is, cyc, there) = comes_to_cycle h.draw.entries v low open_v on rounds in
+          let (left, answers) = pops (turned l) cyc there in
+          does (popping h (turned l)) (goes_as (Some l) is) after r left answers
+
+    pub settles_there : RunsOut (open_arrows p a h.draw.entries) v → (after : Held) (k : ℕ) → after ≡ (settles h t.path).held → k ≡ length t.path → Does after (Ok (Settled k))
+    settles_there out after k left count = does (settles h t.path) (goes_as None (goes_straight h.draw.entries v low open_v out)) after (Ok (Settled k)) left (ap (λ n. Ok (Settled n)) count)

@@ -4,7 +4,6 @@ ghost use Rattle.model.specs.declared.fault.DrawFault.TheVariants.{NoMemory};
 ghost use Rattle.desk.specs.Drawings.{begun, drawing_of, ordering_of, reordered};
 
 use super::Running;
-use crate::lists::filled;
 use draws::draw::Draw;
 use model::draw::Pop;
 use model::fault::DrawFault;
@@ -26,7 +25,7 @@ impl Running {
         ensures { MatchResult result (λ x. drawing_of x ≡ begun (P.layout plan.now) room) (λ e. e ≡ NoMemory) }
     {
         let draw = Draw::open(plan, heap)?;
-        let list = filled(BLANK, room as usize, heap)?;
+        let list = vec![in heap; BLANK; room as usize]?;
         Ok(Running {
             draw,
             list,

@@ -1,25 +1,39 @@
 // What a draw shows, and the calls that read its end.
-ghost use Rattle.std.specs.Prelude.{◌≡◌, ◌⊎◌, Ok, Err, MatchResult};
+ghost use Rattle.std.specs.Prelude.{◌≡◌, ◌≤◌, ◌⊎◌, not, map, length, filter, Ok, Err, MatchResult};
+ghost use Rattle.std.specs.List.{enumerate_from};
 ghost use Rattle.model.specs.declared.fault.DrawFault.TheVariants.{NoMemory};
 ghost use Rattle.theory.specs.Reseats.{reseats_to};
 ghost use Rattle.desk.specs.Drawings.{drawing_of, heights_shown, open_shown, records_shown, tree_shown};
 
 use super::Running;
-use crate::lists::{filled, first_of, heights_of, open_among};
 use endings::reseat::reseat;
 use endings::tree::tree;
-use model::draw::Pop;
+use model::draw::{Entry, Pop};
 use model::fault::DrawFault;
 use model::plan::Plan;
 use model::source::ArrowSource;
 use std::alloc::Global;
+
+// The open vertices by their entries, rising.
+fn open_among(entries: &[Entry], heap: Global) -> Result<Vec<u16>, DrawFault>
+    requires { length entries.now ≤ 1024 }
+    ensures { MatchResult result (λ l. l.items ≡ map (λ x. x.0) (filter (λ x. not x.1.settled) (enumerate_from 0 entries.now))) (λ e. e ≡ NoMemory) }
+{
+    let open = entries
+        .iter()
+        .enumerate()
+        .filter(|(_, entry)| !entry.settled)
+        .map(|(v, _)| v as u16);
+    Ok(open.collect(heap)?)
+}
 
 impl Running {
     // The height of each vertex.
     pub fn heights(&self, heap: Global) -> Result<Vec<u16>, DrawFault>
         ensures { MatchResult result (λ l. l.items ≡ heights_shown (drawing_of self.now)) (λ e. e ≡ NoMemory) }
     {
-        heights_of(self.draw.entries(), heap)
+        let heights = self.draw.entries().iter().map(|entry| entry.height);
+        Ok(heights.collect(heap)?)
     }
 
     // The open vertices, rising.
@@ -33,7 +47,8 @@ impl Running {
     pub fn records(&self, heap: Global) -> Result<Vec<Pop>, DrawFault>
         ensures { MatchResult result (λ l. l.items ≡ records_shown (drawing_of self.now)) (λ e. e ≡ NoMemory) }
     {
-        first_of(self.list.as_slice(), self.draw.pops(), heap)
+        let records = self.list.iter().take(self.draw.pops()).copied();
+        Ok(records.collect(heap)?)
     }
 
     // The tree of the ended draw: one port for each vertex, 65,535 at the root.
@@ -45,7 +60,7 @@ impl Running {
     ) -> Result<Vec<u16>, DrawFault>
         ensures { MatchResult result (λ l. tree_shown (P.layout plan.now) (S.cells arrows.now) (drawing_of self.now) ≡ Ok l.items) (λ e. (tree_shown (P.layout plan.now) (S.cells arrows.now) (drawing_of self.now) ≡ Err e) ⊎ (e ≡ NoMemory)) }
     {
-        let mut ports = filled(0, plan.size() as usize, heap)?;
+        let mut ports = vec![in heap; 0; plan.size() as usize]?;
         tree(&self.draw, plan, arrows, ports.as_mut_slice())?;
         Ok(ports)
     }

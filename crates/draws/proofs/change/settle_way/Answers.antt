@@ -25,8 +25,7 @@ returns-in_default g c =
     let start = vec_items c.args.entries.now.list in
     let inv = c.loop-sight.invariant in
     let none : shown p a start c.loop-sight.here ≡ None = sym (shown_still p a start _ _ _ _ inv) ∙ sym c.in_default.ensures in
-    let (after, count) = ends_dry _ _ _ _ _ _ inv (sym c.if-settled.ensures) _ c.settle_at.ensures none in
-    record { after = after; count = count }
+    ends_dry _ _ _ _ _ _ inv (sym c.if-settled.ensures) _ c.settle_at.ensures none
 
 pub loop-sight-smaller : goal.loop-sight-smaller
 loop-sight-smaller g c = falls _ _ _ _ _ _ c.loop-sight.invariant (sym c.if-settled.ensures) _ c.settle_at.ensures
@@ -43,6 +42,4 @@ loop-sight-preserved g c =
     goes_on _ _ _ _ _ _ inv (sym c.if-settled.ensures) _ c.settle_at.ensures c.in-Some.next low some
 
 pub returns-then-settled : goal.returns-then-settled
-returns-then-settled g c =
-    let (after, count) = stops _ _ _ _ _ _ c.loop-sight.invariant c.requires.straight (sym c.if-settled.ensures) in
-    record { after = after; count = count }
+returns-then-settled g c = stops _ _ _ _ _ _ c.loop-sight.invariant c.requires.straight (sym c.if-settled.ensures)
