@@ -1,11 +1,9 @@
 -- What the words after a command's name say, by how many they are. Assumes nothing.
-use Rattle.std.proofs.Common.{◌≡◌, ℕ, ◌+◌, ◌<◌, ◌≤◌, Bool, cond, List, [], ◌∷◌, ◌++◌, length, get_or, drop, Ok, Err, codes, Result, sym, refl, ap, ◌∙◌, append_assoc, append-nil, arith, Bor}
-use Rattle.std.proofs.lemmas.List.{at_drop_more, at_drop_all}
+use Rattle.std.proofs.Common.{◌≡◌, ℕ, ◌≤◌, Bool, cond, List, [], ◌∷◌, ◌++◌, length, get_or, Ok, Err, codes, Result, refl, ap, arith, Bor}
 use Rattle.std.specs.Str.{bytes_eq}
-use Rattle.commands.specs.Args.{and_then, entry_of, list_of, single_of, two_of, around_of}
+use Rattle.commands.specs.Args.{and_then, single_of, two_of, around_of}
 use Rattle.commands.specs.Commands.{Asked, walk, alone_of, listed_of, order_of}
 use Rattle.tokens.specs.Words.{bytes}
-use Rattle.commands.specs.declared.args.Dash.{Dash}
 use Rattle.commands.specs.declared.command.Mistake.{Mistake}
 use Rattle.commands.specs.declared.command.Mistake.TheVariants.{Count}
 
@@ -76,35 +74,3 @@ order_by_words (a ∷ b ∷ ws) some = refl
 -- numbers that were read, and the rest
 abbrev pub behind : List ℕ → Result (List ℕ) Mistake → Result (List ℕ) Mistake
 behind ns rest = and_then rest (λ ms. Ok (ns ++ ms))
-
-pub behind_none : (r : Result (List ℕ) Mistake) → behind [] r ≡ r
-behind_none (Err e) = refl
-behind_none (Ok ms) = refl
-
--- a number, or its mistake, and then the rest
-abbrev before : Result ℕ Mistake → Result (List ℕ) Mistake → Result (List ℕ) Mistake
-before n rest = and_then n (λ m. and_then rest (λ ms. Ok (m ∷ ms)))
-
-behind_before : (ns : List ℕ) (n : ℕ) (rest : Result (List ℕ) Mistake) → behind (ns ++ n ∷ []) rest ≡ behind ns (before (Ok n) rest)
-behind_before ns n (Err e) = refl
-behind_before ns n (Ok ms) = ap Ok (append_assoc ns (n ∷ []) ms)
-
-module _ (dash : Dash) (ws : List (Bor (List ℕ))) (i : ℕ) (ns : List ℕ) where
-  -- the rest where the word at i was read
-  entry_at : (r : Result ℕ Mistake) → i < length ws → r ≡ entry_of dash (word_at ws i) → behind ns (before r (list_of dash (bytes (drop (i + 1) ws)))) ≡ behind ns (list_of dash (bytes (drop i ws)))
-  entry_at r within is =
-      ap (λ (n : Result ℕ Mistake). behind ns (before n (list_of dash (bytes (drop (i + 1) ws))))) is
-      ∙ ap (behind ns) (sym (at_drop_more (λ (l : List (Bor (List ℕ))). list_of dash (bytes l)) ws i _ within))
-
-  -- the word at i is a number
-  pub entry_more : (n : ℕ) → i < length ws → Ok n ≡ entry_of dash (word_at ws i) → behind (ns ++ n ∷ []) (list_of dash (bytes (drop (i + 1) ws))) ≡ behind ns (list_of dash (bytes (drop i ws)))
-  entry_more n within is = behind_before ns n _ ∙ entry_at (Ok n) within is
-
-  -- the word at i is a mistake
-  pub entry_wrong : (e : Mistake) → i < length ws → Err e ≡ entry_of dash (word_at ws i) → Err e ≡ behind ns (list_of dash (bytes (drop i ws)))
-  entry_wrong e within is = entry_at (Err e) within is
-
-  -- no word is left
-  pub entries_done : length ws ≤ i → Ok ns ≡ behind ns (list_of dash (bytes (drop i ws)))
-  entries_done past =
-      ap Ok (sym (append-nil ns)) ∙ ap (behind ns) (sym (at_drop_all (λ (l : List (Bor (List ℕ))). list_of dash (bytes l)) ws i past))

@@ -1,19 +1,14 @@
 // Reads the words after a command's name.
-ghost use Rattle.std.specs.Prelude.{◌≡◌, vec_items};
+ghost use Rattle.std.specs.Prelude.{◌≡◌, ℕ, List, Result, vec_items};
+ghost use Rattle.std.specs.Fn.{FnReturnsAt};
 ghost use Rattle.std.specs.Str.{bytes_eq};
-ghost use Rattle.commands.specs.Args.{meant, Reads, small_of, port_of, entry_of, list_of, pair_of, single_of, two_of, around_of};
+ghost use Rattle.commands.specs.declared.command.Mistake.{Mistake};
+ghost use Rattle.commands.specs.Args.{meant, Reads, small_of, port_of, list_of, pair_of, single_of, two_of, around_of};
 ghost use Rattle.tokens.specs.Words.{bytes};
 
 use crate::command::{Mistake, Unread};
 use std::alloc::Global;
 use tokens::number::number;
-
-// Whether `-`, for the root's port, may stand in a list of numbers.
-#[derive(Clone, Copy)]
-pub(crate) enum Dash {
-    Allowed,
-    Refused,
-}
 
 // Whether the word is this text, byte for byte.
 pub(crate) fn is(word: &[u8], text: &[u8]) -> bool
@@ -33,7 +28,7 @@ pub(crate) fn small(word: &[u8]) -> Result<u16, Mistake>
 }
 
 // A port, or `-` for the root's.
-fn port(word: &[u8]) -> Result<u16, Mistake>
+pub(crate) fn port(word: &[u8]) -> Result<u16, Mistake>
     ensures { result ≡ port_of word.now }
 {
     if is(word, b"-") {
@@ -43,23 +38,18 @@ fn port(word: &[u8]) -> Result<u16, Mistake>
     }
 }
 
-// A number of a list.
-fn entry(word: &[u8], dash: Dash) -> Result<u16, Mistake>
-    ensures { result ≡ entry_of dash word.now }
-{
-    match dash {
-        Dash::Allowed => port(word),
-        Dash::Refused => small(word),
-    }
-}
-
-// The words as numbers, in order.
-pub(crate) fn list(heap: Global, args: &[&[u8]], dash: Dash) -> Result<Vec<u16>, Unread>
-    ensures { Reads vec_items result (list_of dash (bytes args.now)) }
+// The words as numbers, in order, each read by `read`.
+pub(crate) fn list<F: Fn(&[u8]) -> Result<u16, Mistake>>(
+    heap: Global,
+    args: &[&[u8]],
+    read: F,
+) -> Result<Vec<u16>, Unread>
+    requires { F.IsAlwaysCallable read }
+    ensures { (f : List ℕ → Result ℕ Mistake) → ((word : List ℕ) (r : Result ℕ Mistake) → FnReturnsAt F.Fn read word r → r ≡ f word) → Reads vec_items result (list_of f (bytes args.now)) }
 {
     let mut numbers = Vec::new(heap);
     for word in args {
-        let n = entry(word, dash)?;
+        let n = read(word)?;
         numbers.push(n)?;
     }
     Ok(numbers)

@@ -7,7 +7,7 @@ ghost use Rattle.commands.specs.Told.{told};
 ghost use Rattle.commands.specs.declared.command.Unread.TheVariants as unread;
 ghost use Rattle.tokens.specs.Words.{bytes};
 
-use crate::args::{Dash, around, is, list, pair, single, small, two};
+use crate::args::{around, is, list, pair, port, single, small, two};
 use crate::keyword::{Keyword, keyword_of};
 use crate::scope::Scope;
 use std::alloc::{AllocError, AllocFailed, Global};
@@ -145,7 +145,7 @@ fn link(args: &[&[u8]]) -> Result<Command, Mistake>
 fn check(heap: Global, args: &[&[u8]]) -> Result<Command, Unread>
     ensures { Reads asked result (check_of (bytes args.now)) }
 {
-    let ports = list(heap, args, Dash::Allowed)?;
+    let ports = list(heap, args, port)?;
     Ok(Command::Check { ports })
 }
 
@@ -154,14 +154,14 @@ fn filed(heap: Global, args: &[&[u8]]) -> Result<Command, Unread>
 {
     let (first, cells) = args.split_first().ok_or(Mistake::Count)?;
     let depth = small(first)?;
-    let ports = list(heap, cells, Dash::Refused)?;
+    let ports = list(heap, cells, small)?;
     Ok(Command::Filed { depth, ports })
 }
 
 fn cells(heap: Global, args: &[&[u8]]) -> Result<Command, Unread>
     ensures { Reads asked result (cells_of (bytes args.now)) }
 {
-    let ports = list(heap, args, Dash::Refused)?;
+    let ports = list(heap, args, small)?;
     Ok(Command::Cells { ports })
 }
 
@@ -184,7 +184,7 @@ fn room(args: &[&[u8]]) -> Result<Command, Mistake>
 fn listed(heap: Global, args: &[&[u8]]) -> Result<Command, Unread>
     ensures { Reads asked result (listed_of (bytes args.now)) }
 {
-    let vertices = list(heap, args, Dash::Refused)?;
+    let vertices = list(heap, args, small)?;
     Ok(Command::Listed { vertices })
 }
 
@@ -216,7 +216,7 @@ fn run(args: &[&[u8]]) -> Result<Command, Mistake>
 fn reseat(heap: Global, args: &[&[u8]]) -> Result<Command, Unread>
     ensures { Reads asked result (reseat_of (bytes args.now)) }
 {
-    let ports = list(heap, args, Dash::Allowed)?;
+    let ports = list(heap, args, port)?;
     Ok(Command::Reseat { ports })
 }
 
