@@ -1,7 +1,8 @@
 -- What the words after a command's name say, by how many they are. Assumes nothing.
 use Rattle.std.proofs.Common.{◌≡◌, ℕ, ◌≤◌, Bool, cond, List, [], ◌∷◌, ◌++◌, length, get_or, Ok, Err, codes, Result, refl, ap, arith, Bor}
 use Rattle.std.specs.Str.{bytes_eq}
-use Rattle.commands.specs.Args.{and_then, single_of, two_of, around_of}
+use Rattle.std.specs.Fn.{Shared}
+use Rattle.commands.specs.Args.{Computes, and_then, single_of, two_of, around_of}
 use Rattle.commands.specs.Commands.{Asked, walk, alone_of, listed_of, order_of}
 use Rattle.tokens.specs.Words.{bytes}
 use Rattle.commands.specs.declared.command.Mistake.{Mistake}
@@ -74,3 +75,7 @@ order_by_words (a ∷ b ∷ ws) some = refl
 -- numbers that were read, and the rest
 abbrev pub behind : List ℕ → Result (List ℕ) Mistake → Result (List ℕ) Mistake
 behind ns rest = and_then rest (λ ms. Ok (ns ++ ms))
+
+-- a call of the reader at a word
+pub at_word : {F : Type 0} (calls : Shared F (Bor (List ℕ) × Unit {0}) (Result ℕ Mistake)) (reader : F) (f : List ℕ → Result ℕ Mistake) (word : Bor (List ℕ)) (r : Result ℕ Mistake) → Computes calls reader f → calls.post reader (word, tt) r → r ≡ f word.now
+at_word calls reader f word r computes met = computes word.now r (record { shown = word; shows = refl; says = record { met = met } })

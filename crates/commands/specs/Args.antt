@@ -1,5 +1,7 @@
 -- What the words after a command's name say. Assumes nothing.
 use Rattle.std.specs.Prelude.{◌≡◌, ⊤, ℕ, cond, List, [], ◌∷◌, Some, None, Ok, Err, codes, Option, Result}
+use Rattle.std.specs.Borrow.{Bor}
+use Rattle.std.specs.Fn.{Shared, FnReturnsAt}
 use Rattle.std.specs.Str.{bytes_eq}
 use Rattle.tokens.specs.Numbers.{number_of}
 use Rattle.commands.specs.declared.command.Mistake.{Mistake}
@@ -35,6 +37,10 @@ small_of word = or_mistake (number_of word 65535)
 -- a port: `-` is the root's
 abbrev pub port_of : List ℕ → Result ℕ Mistake
 port_of word = cond (bytes_eq word (codes "-")) (Ok 65535) (small_of word)
+
+-- each call of the code's reader gives what f says of the word
+abbrev pub Computes : {F : Type 0} → Shared F (Bor (List ℕ) × Unit {0}) (Result ℕ Mistake) → F → (List ℕ → Result ℕ Mistake) → Type 0
+Computes calls reader f = (word : List ℕ) (r : Result ℕ Mistake) → FnReturnsAt calls reader word r → r ≡ f word
 
 -- numbers, in order, each word read by f, or the mistake in one of them
 abbrev pub list_of : (List ℕ → Result ℕ Mistake) → List (List ℕ) → Result (List ℕ) Mistake

@@ -1,9 +1,8 @@
 // Reads the words after a command's name.
 ghost use Rattle.std.specs.Prelude.{◌≡◌, ℕ, List, Result, vec_items};
-ghost use Rattle.std.specs.Fn.{FnReturnsAt};
 ghost use Rattle.std.specs.Str.{bytes_eq};
 ghost use Rattle.commands.specs.declared.command.Mistake.{Mistake};
-ghost use Rattle.commands.specs.Args.{meant, Reads, small_of, port_of, list_of, pair_of, single_of, two_of, around_of};
+ghost use Rattle.commands.specs.Args.{meant, Reads, Computes, small_of, port_of, list_of, pair_of, single_of, two_of, around_of};
 ghost use Rattle.tokens.specs.Words.{bytes};
 
 use crate::command::{Mistake, Unread};
@@ -45,7 +44,7 @@ pub(crate) fn list<F: Fn(&[u8]) -> Result<u16, Mistake>>(
     read: F,
 ) -> Result<Vec<u16>, Unread>
     requires { F.IsAlwaysCallable read }
-    ensures { (f : List ℕ → Result ℕ Mistake) → ((word : List ℕ) (r : Result ℕ Mistake) → FnReturnsAt F.Fn read word r → r ≡ f word) → Reads vec_items result (list_of f (bytes args.now)) }
+    ensures { (f : List ℕ → Result ℕ Mistake) → Computes F.Fn read f → Reads vec_items result (list_of f (bytes args.now)) }
 {
     let mut numbers = Vec::new(heap);
     for word in args {
