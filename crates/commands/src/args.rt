@@ -9,29 +9,19 @@ use crate::command::{Mistake, Unread};
 use std::alloc::Global;
 use tokens::number::number;
 
-// Whether the word is this text, byte for byte.
-pub(crate) fn is(word: &[u8], text: &[u8]) -> bool
-    ensures { result ≡ bytes_eq word.now text.now }
-{
-    word == text
-}
-
 // A vertex, a port, a size or a depth.
 pub(crate) fn small(word: &[u8]) -> Result<u16, Mistake>
     ensures { result ≡ small_of word.now }
 {
-    match number(word, 65535) {
-        Some(n) => Ok(n as u16),
-        None => Err(Mistake::Number),
-    }
+    number(word, 65535).map(|n| n as u16).ok_or(Mistake::Number)
 }
 
 // A port, or `-` for the root's.
 pub(crate) fn port(word: &[u8]) -> Result<u16, Mistake>
     ensures { result ≡ port_of word.now }
 {
-    if is(word, b"-") {
-        Ok(0xFFFF)
+    if word == b"-".as_slice() {
+        Ok(u16::MAX)
     } else {
         small(word)
     }
@@ -94,7 +84,7 @@ pub(crate) fn around<'a>(
     let [left, word, right] = args else {
         return Err(Mistake::Count);
     };
-    if is(word, text) {
+    if *word == text {
         Ok((left, right))
     } else {
         Err(missing)

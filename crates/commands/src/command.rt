@@ -7,7 +7,7 @@ ghost use Rattle.commands.specs.Told.{told};
 ghost use Rattle.commands.specs.declared.command.Unread.TheVariants as unread;
 ghost use Rattle.tokens.specs.Words.{bytes};
 
-use crate::args::{around, is, list, pair, port, single, small, two};
+use crate::args::{around, list, pair, port, single, small, two};
 use crate::keyword::{Keyword, keyword_of};
 use crate::scope::Scope;
 use std::alloc::{AllocError, AllocFailed, Global};
@@ -194,7 +194,7 @@ fn order(heap: Global, args: &[&[u8]]) -> Result<Command, Unread>
 {
     match args {
         [] => Err(Unread::Mistake(Mistake::Count)),
-        [word] if is(word, b"walk") => Ok(Command::Walk),
+        [word] if *word == b"walk".as_slice() => Ok(Command::Walk),
         _ => listed(heap, args),
     }
 }
