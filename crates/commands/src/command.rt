@@ -55,25 +55,17 @@ pub enum Mistake {
     Number,
 }
 
-impl Mistake {
-    fn text(&self) -> &'static str
-        ensures { result.now ≡ told self.now }
-    {
-        match self {
-            Mistake::Unknown => "no such command",
-            Mistake::Count => "wrong number of words",
-            Mistake::Root => "the word `root` is missing",
-            Mistake::Depth => "the word `depth` is missing",
-            Mistake::Number => "a number is wrong or too large",
-        }
-    }
-}
-
 impl fmt::Display for Mistake {
     ghost output = { λ m. Some (told m) };
 
     fn fmt<W: fmt::Write>(&self, f: &mut fmt::Formatter<W>) -> fmt::Result {
-        f.write_str(self.text())
+        match self {
+            Mistake::Unknown => f.write_str("no such command"),
+            Mistake::Count => f.write_str("wrong number of words"),
+            Mistake::Root => f.write_str("the word `root` is missing"),
+            Mistake::Depth => f.write_str("the word `depth` is missing"),
+            Mistake::Number => f.write_str("a number is wrong or too large"),
+        }
     }
 }
 
