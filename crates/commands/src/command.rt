@@ -134,13 +134,6 @@ fn link(args: &[&[u8]]) -> Result<Command, Mistake>
     Ok(Command::Link { from, to })
 }
 
-fn check(heap: Global, args: &[&[u8]]) -> Result<Command, Unread>
-    ensures { Reads asked result (check_of (bytes args.now)) }
-{
-    let ports = list(heap, args, port)?;
-    Ok(Command::Check { ports })
-}
-
 fn filed(heap: Global, args: &[&[u8]]) -> Result<Command, Unread>
     ensures { Reads asked result (filed_of (bytes args.now)) }
 {
@@ -150,13 +143,6 @@ fn filed(heap: Global, args: &[&[u8]]) -> Result<Command, Unread>
     Ok(Command::Filed { depth, ports })
 }
 
-fn cells(heap: Global, args: &[&[u8]]) -> Result<Command, Unread>
-    ensures { Reads asked result (cells_of (bytes args.now)) }
-{
-    let ports = list(heap, args, small)?;
-    Ok(Command::Cells { ports })
-}
-
 fn seeded(args: &[&[u8]]) -> Result<Command, Mistake>
     ensures { answer result ≡ seeded_of (bytes args.now) }
 {
@@ -164,13 +150,6 @@ fn seeded(args: &[&[u8]]) -> Result<Command, Mistake>
     let seed = seed(left).ok_or(Mistake::Number)?;
     let depth = small(right)?;
     Ok(Command::Seeded { seed, depth })
-}
-
-fn room(args: &[&[u8]]) -> Result<Command, Mistake>
-    ensures { answer result ≡ room_of (bytes args.now) }
-{
-    let records = small(single(args)?)?;
-    Ok(Command::Room { records })
 }
 
 fn listed(heap: Global, args: &[&[u8]]) -> Result<Command, Unread>
@@ -191,25 +170,11 @@ fn order(heap: Global, args: &[&[u8]]) -> Result<Command, Unread>
     }
 }
 
-fn try_at(args: &[&[u8]]) -> Result<Command, Mistake>
-    ensures { answer result ≡ try_of (bytes args.now) }
-{
-    let vertex = small(single(args)?)?;
-    Ok(Command::Try { vertex })
-}
-
 fn run(args: &[&[u8]]) -> Result<Command, Mistake>
     ensures { answer result ≡ run_of (bytes args.now) }
 {
     let budget = number(single(args)?, u32::MAX).ok_or(Mistake::Number)?;
     Ok(Command::Run { budget })
-}
-
-fn reseat(heap: Global, args: &[&[u8]]) -> Result<Command, Unread>
-    ensures { Reads asked result (reseat_of (bytes args.now)) }
-{
-    let ports = list(heap, args, port)?;
-    Ok(Command::Reseat { ports })
 }
 
 // What the words of a line ask for, in a sheet of this scope. A line without words is passed over by the caller; here it names no command.
@@ -222,21 +187,21 @@ pub fn command_of(heap: Global, scope: Scope, words: &[&[u8]]) -> Result<Command
         Keyword::Complete => complete(args)?,
         Keyword::Table => table(args)?,
         Keyword::Link => link(args)?,
-        Keyword::Check => check(heap, args)?,
+        Keyword::Check => Command::Check { ports: list(heap, args, port)? },
         Keyword::Filed => filed(heap, args)?,
-        Keyword::Cells => cells(heap, args)?,
+        Keyword::Cells => Command::Cells { ports: list(heap, args, small)? },
         Keyword::Seeded => seeded(args)?,
-        Keyword::Room => room(args)?,
+        Keyword::Room => Command::Room { records: small(single(args)?)? },
         Keyword::Open => alone(args, Command::Open)?,
         Keyword::Order => order(heap, args)?,
-        Keyword::Try => try_at(args)?,
+        Keyword::Try => Command::Try { vertex: small(single(args)?)? },
         Keyword::Step => alone(args, Command::Step)?,
         Keyword::Run => run(args)?,
         Keyword::Heights => alone(args, Command::Heights)?,
         Keyword::OpenVertices => alone(args, Command::OpenVertices)?,
         Keyword::Records => alone(args, Command::Records)?,
         Keyword::Tree => alone(args, Command::Tree)?,
-        Keyword::Reseat => reseat(heap, args)?,
+        Keyword::Reseat => Command::Reseat { ports: list(heap, args, port)? },
         Keyword::Help => alone(args, Command::Help { scope })?,
     };
     Ok(command)
