@@ -48,9 +48,7 @@ pub(crate) fn list<F: Fn(&[u8]) -> Result<u16, Mistake>>(
 pub(crate) fn pair(left: &[u8], right: &[u8]) -> Result<(u16, u16), Mistake>
     ensures { result ≡ pair_of left.now right.now }
 {
-    let first = small(left)?;
-    let second = small(right)?;
-    Ok((first, second))
+    Ok((small(left)?, small(right)?))
 }
 
 // The only word.

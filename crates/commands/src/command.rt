@@ -112,20 +112,6 @@ fn sized(args: &[&[u8]]) -> Result<(u16, u16), Mistake>
     pair(size, root)
 }
 
-fn complete(args: &[&[u8]]) -> Result<Command, Mistake>
-    ensures { answer result ≡ complete_of (bytes args.now) }
-{
-    let (size, root) = sized(args)?;
-    Ok(Command::Complete { size, root })
-}
-
-fn table(args: &[&[u8]]) -> Result<Command, Mistake>
-    ensures { answer result ≡ table_of (bytes args.now) }
-{
-    let (size, root) = sized(args)?;
-    Ok(Command::Table { size, root })
-}
-
 fn link(args: &[&[u8]]) -> Result<Command, Mistake>
     ensures { answer result ≡ link_of (bytes args.now) }
 {
@@ -170,13 +156,6 @@ fn order(heap: Global, args: &[&[u8]]) -> Result<Command, Unread>
     }
 }
 
-fn run(args: &[&[u8]]) -> Result<Command, Mistake>
-    ensures { answer result ≡ run_of (bytes args.now) }
-{
-    let budget = number(single(args)?, u32::MAX).ok_or(Mistake::Number)?;
-    Ok(Command::Run { budget })
-}
-
 // What the words of a line ask for, in a sheet of this scope. A line without words is passed over by the caller; here it names no command.
 pub fn command_of(heap: Global, scope: Scope, words: &[&[u8]]) -> Result<Command, Unread>
     ensures { Reads asked result (command_of scope (bytes words.now)) }
@@ -184,24 +163,43 @@ pub fn command_of(heap: Global, scope: Scope, words: &[&[u8]]) -> Result<Command
     let (first, args) = words.split_first().ok_or(Mistake::Unknown)?;
     let keyword = keyword_of(scope, first).ok_or(Mistake::Unknown)?;
     let command = match keyword {
-        Keyword::Complete => complete(args)?,
-        Keyword::Table => table(args)?,
+        Keyword::Complete => {
+            let (size, root) = sized(args)?;
+            Command::Complete { size, root }
+        }
+        Keyword::Table => {
+            let (size, root) = sized(args)?;
+            Command::Table { size, root }
+        }
         Keyword::Link => link(args)?,
-        Keyword::Check => Command::Check { ports: list(heap, args, port)? },
+        Keyword::Check => Command::Check {
+            ports: list(heap, args, port)?,
+        },
         Keyword::Filed => filed(heap, args)?,
-        Keyword::Cells => Command::Cells { ports: list(heap, args, small)? },
+        Keyword::Cells => Command::Cells {
+            ports: list(heap, args, small)?,
+        },
         Keyword::Seeded => seeded(args)?,
-        Keyword::Room => Command::Room { records: small(single(args)?)? },
+        Keyword::Room => Command::Room {
+            records: small(single(args)?)?,
+        },
         Keyword::Open => alone(args, Command::Open)?,
         Keyword::Order => order(heap, args)?,
-        Keyword::Try => Command::Try { vertex: small(single(args)?)? },
+        Keyword::Try => Command::Try {
+            vertex: small(single(args)?)?,
+        },
         Keyword::Step => alone(args, Command::Step)?,
-        Keyword::Run => run(args)?,
+        Keyword::Run => {
+            let budget = number(single(args)?, u32::MAX).ok_or(Mistake::Number)?;
+            Command::Run { budget }
+        }
         Keyword::Heights => alone(args, Command::Heights)?,
         Keyword::OpenVertices => alone(args, Command::OpenVertices)?,
         Keyword::Records => alone(args, Command::Records)?,
         Keyword::Tree => alone(args, Command::Tree)?,
-        Keyword::Reseat => Command::Reseat { ports: list(heap, args, port)? },
+        Keyword::Reseat => Command::Reseat {
+            ports: list(heap, args, port)?,
+        },
         Keyword::Help => alone(args, Command::Help { scope })?,
     };
     Ok(command)
