@@ -1,1 +1,2 @@
 mod Askings
+mod Names

@@ -1,9 +1,9 @@
 -- What the words after a command's name say. Assumes nothing.
 use Rattle.std.specs.Prelude.{◌≡◌, ⊤, ℕ, cond, List, [], ◌∷◌, Some, None, Ok, Err, codes, Option, Result}
+use Rattle.std.specs.Borrow.{Bor}
+use Rattle.std.specs.Fn.{Shared, FnReturnsAt}
 use Rattle.std.specs.Str.{bytes_eq}
 use Rattle.tokens.specs.Numbers.{number_of}
-use Rattle.commands.specs.declared.args.Dash.{Dash}
-use Rattle.commands.specs.declared.args.Dash.TheVariants.{Allowed, Refused}
 use Rattle.commands.specs.declared.command.Mistake.{Mistake}
 use Rattle.commands.specs.declared.command.Unread.{Unread}
 use Rattle.commands.specs.declared.command.Unread.TheVariants as unread
@@ -38,15 +38,14 @@ small_of word = or_mistake (number_of word 65535)
 abbrev pub port_of : List ℕ → Result ℕ Mistake
 port_of word = cond (bytes_eq word (codes "-")) (Ok 65535) (small_of word)
 
--- a number of a list
-abbrev pub entry_of : Dash → List ℕ → Result ℕ Mistake
-entry_of Allowed word = port_of word
-entry_of Refused word = small_of word
+-- each call of the code's reader gives what f says of the word
+abbrev pub Computes : {F : Type 0} → Shared F (Bor (List ℕ) × Unit {0}) (Result ℕ Mistake) → F → (List ℕ → Result ℕ Mistake) → Type 0
+Computes calls reader f = (word : List ℕ) (r : Result ℕ Mistake) → FnReturnsAt calls reader word r → r ≡ f word
 
--- numbers, in order, or the mistake in one of them
-abbrev pub list_of : Dash → List (List ℕ) → Result (List ℕ) Mistake
-list_of dash [] = Ok []
-list_of dash (w ∷ ws) = and_then (entry_of dash w) (λ n. and_then (list_of dash ws) (λ ns. Ok (n ∷ ns)))
+-- numbers, in order, each word read by f, or the mistake in one of them
+abbrev pub list_of : (List ℕ → Result ℕ Mistake) → List (List ℕ) → Result (List ℕ) Mistake
+list_of f [] = Ok []
+list_of f (w ∷ ws) = and_then (f w) (λ n. and_then (list_of f ws) (λ ns. Ok (n ∷ ns)))
 
 -- two numbers, or the mistake in one of them
 abbrev pub pair_of : List ℕ → List ℕ → Result (ℕ × ℕ) Mistake

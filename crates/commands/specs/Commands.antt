@@ -2,10 +2,9 @@
 use Rattle.std.specs.Prelude.{ℕ, cond, List, [], ◌∷◌, Some, None, Ok, Err, codes, Option, Result}
 use Rattle.std.specs.Option.{option_or}
 use Rattle.std.specs.Str.{bytes_eq}
-use Rattle.commands.specs.Args.{and_then, or_mistake, small_of, list_of, pair_of, single_of, two_of, around_of}
+use Rattle.commands.specs.Args.{and_then, or_mistake, small_of, port_of, list_of, pair_of, single_of, two_of, around_of}
 use Rattle.tokens.specs.Numbers.{number_of}
 use Rattle.tokens.specs.Seeds.{seed_of}
-use Rattle.commands.specs.declared.args.Dash.TheVariants.{Allowed, Refused}
 use Rattle.commands.specs.declared.command.Mistake.{Mistake}
 use Rattle.commands.specs.declared.command.Mistake.TheVariants.{Unknown, Count, Root, Depth}
 use Rattle.commands.specs.declared.keyword.Keyword.{Keyword}
@@ -91,16 +90,16 @@ link_of ws = and_then (two_of ws) (λ words. and_then (pair_of words.0 words.1) 
 
 -- `check P P ..`
 abbrev pub check_of : List (List ℕ) → Result Asked Mistake
-check_of ws = and_then (list_of Allowed ws) (λ ports. Ok (check ports))
+check_of ws = and_then (list_of port_of ws) (λ ports. Ok (check ports))
 
 -- `filed D P P ..`
 abbrev pub filed_of : List (List ℕ) → Result Asked Mistake
 filed_of [] = Err Count
-filed_of (w ∷ ws) = and_then (small_of w) (λ depth. and_then (list_of Refused ws) (λ ports. Ok (filed depth ports)))
+filed_of (w ∷ ws) = and_then (small_of w) (λ depth. and_then (list_of small_of ws) (λ ports. Ok (filed depth ports)))
 
 -- `cells P P ..`
 abbrev pub cells_of : List (List ℕ) → Result Asked Mistake
-cells_of ws = and_then (list_of Refused ws) (λ ports. Ok (cells ports))
+cells_of ws = and_then (list_of small_of ws) (λ ports. Ok (cells ports))
 
 -- the seed and the depth
 abbrev pub seed_and_depth_of : List ℕ → List ℕ → Result Asked Mistake
@@ -116,7 +115,7 @@ room_of ws = and_then (single_of ws) (λ word. and_then (small_of word) (λ coun
 
 -- an order by its vertices
 abbrev pub listed_of : List (List ℕ) → Result Asked Mistake
-listed_of ws = and_then (list_of Refused ws) (λ vertices. Ok (listed vertices))
+listed_of ws = and_then (list_of small_of ws) (λ vertices. Ok (listed vertices))
 
 -- `order walk` or `order V V ..`
 abbrev pub order_of : List (List ℕ) → Result Asked Mistake
@@ -134,7 +133,7 @@ run_of ws = and_then (single_of ws) (λ word. and_then (or_mistake (number_of wo
 
 -- `reseat P P ..`
 abbrev pub reseat_of : List (List ℕ) → Result Asked Mistake
-reseat_of ws = and_then (list_of Allowed ws) (λ ports. Ok (reseat ports))
+reseat_of ws = and_then (list_of port_of ws) (λ ports. Ok (reseat ports))
 
 -- a command by its name and the words after it, in a sheet of this scope
 abbrev pub further_of : Scope → Option Keyword → List (List ℕ) → Result Asked Mistake

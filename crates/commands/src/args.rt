@@ -1,65 +1,44 @@
 // Reads the words after a command's name.
-ghost use Rattle.std.specs.Prelude.{◌≡◌, vec_items};
+ghost use Rattle.std.specs.Prelude.{◌≡◌, ℕ, List, Result, vec_items};
 ghost use Rattle.std.specs.Str.{bytes_eq};
-ghost use Rattle.commands.specs.Args.{meant, Reads, small_of, port_of, entry_of, list_of, pair_of, single_of, two_of, around_of};
+ghost use Rattle.commands.specs.declared.command.Mistake.{Mistake};
+ghost use Rattle.commands.specs.Args.{meant, Reads, Computes, small_of, port_of, list_of, pair_of, single_of, two_of, around_of};
 ghost use Rattle.tokens.specs.Words.{bytes};
 
 use crate::command::{Mistake, Unread};
 use std::alloc::Global;
 use tokens::number::number;
 
-// Whether `-`, for the root's port, may stand in a list of numbers.
-#[derive(Clone, Copy)]
-pub(crate) enum Dash {
-    Allowed,
-    Refused,
-}
-
-// Whether the word is this text, byte for byte.
-pub(crate) fn is(word: &[u8], text: &[u8]) -> bool
-    ensures { result ≡ bytes_eq word.now text.now }
-{
-    word == text
-}
-
 // A vertex, a port, a size or a depth.
 pub(crate) fn small(word: &[u8]) -> Result<u16, Mistake>
     ensures { result ≡ small_of word.now }
 {
-    match number(word, 65535) {
-        Some(n) => Ok(n as u16),
-        None => Err(Mistake::Number),
-    }
+    number(word, 65535).map(|n| n as u16).ok_or(Mistake::Number)
 }
 
 // A port, or `-` for the root's.
-fn port(word: &[u8]) -> Result<u16, Mistake>
+pub(crate) fn port(word: &[u8]) -> Result<u16, Mistake>
     ensures { result ≡ port_of word.now }
 {
-    if is(word, b"-") {
-        Ok(0xFFFF)
+    if word == b"-".as_slice() {
+        Ok(u16::MAX)
     } else {
         small(word)
     }
 }
 
-// A number of a list.
-fn entry(word: &[u8], dash: Dash) -> Result<u16, Mistake>
-    ensures { result ≡ entry_of dash word.now }
-{
-    match dash {
-        Dash::Allowed => port(word),
-        Dash::Refused => small(word),
-    }
-}
-
-// The words as numbers, in order.
-pub(crate) fn list(heap: Global, args: &[&[u8]], dash: Dash) -> Result<Vec<u16>, Unread>
-    ensures { Reads vec_items result (list_of dash (bytes args.now)) }
+// The words as numbers, in order, each read by `read`.
+pub(crate) fn list<F: Fn(&[u8]) -> Result<u16, Mistake>>(
+    heap: Global,
+    args: &[&[u8]],
+    read: F,
+) -> Result<Vec<u16>, Unread>
+    requires { F.IsAlwaysCallable read }
+    ensures { (f : List ℕ → Result ℕ Mistake) → Computes F.Fn read f → Reads vec_items result (list_of f (bytes args.now)) }
 {
     let mut numbers = Vec::new(heap);
     for word in args {
-        let n = entry(word, dash)?;
+        let n = read(word)?;
         numbers.push(n)?;
     }
     Ok(numbers)
@@ -69,9 +48,7 @@ pub(crate) fn list(heap: Global, args: &[&[u8]], dash: Dash) -> Result<Vec<u16>,
 pub(crate) fn pair(left: &[u8], right: &[u8]) -> Result<(u16, u16), Mistake>
     ensures { result ≡ pair_of left.now right.now }
 {
-    let first = small(left)?;
-    let second = small(right)?;
-    Ok((first, second))
+    Ok((small(left)?, small(right)?))
 }
 
 // The only word.
@@ -105,7 +82,7 @@ pub(crate) fn around<'a>(
     let [left, word, right] = args else {
         return Err(Mistake::Count);
     };
-    if is(word, text) {
+    if *word == text {
         Ok((left, right))
     } else {
         Err(missing)

@@ -7,7 +7,7 @@ ghost use Rattle.commands.specs.Told.{told};
 ghost use Rattle.commands.specs.declared.command.Unread.TheVariants as unread;
 ghost use Rattle.tokens.specs.Words.{bytes};
 
-use crate::args::{Dash, around, is, list, pair, single, small, two};
+use crate::args::{around, list, pair, port, single, small, two};
 use crate::keyword::{Keyword, keyword_of};
 use crate::scope::Scope;
 use std::alloc::{AllocError, AllocFailed, Global};
@@ -55,25 +55,17 @@ pub enum Mistake {
     Number,
 }
 
-impl Mistake {
-    fn text(&self) -> &'static str
-        ensures { result.now ≡ told self.now }
-    {
-        match self {
-            Mistake::Unknown => "no such command",
-            Mistake::Count => "wrong number of words",
-            Mistake::Root => "the word `root` is missing",
-            Mistake::Depth => "the word `depth` is missing",
-            Mistake::Number => "a number is wrong or too large",
-        }
-    }
-}
-
 impl fmt::Display for Mistake {
     ghost output = { λ m. Some (told m) };
 
     fn fmt<W: fmt::Write>(&self, f: &mut fmt::Formatter<W>) -> fmt::Result {
-        f.write_str(self.text())
+        match self {
+            Mistake::Unknown => f.write_str("no such command"),
+            Mistake::Count => f.write_str("wrong number of words"),
+            Mistake::Root => f.write_str("the word `root` is missing"),
+            Mistake::Depth => f.write_str("the word `depth` is missing"),
+            Mistake::Number => f.write_str("a number is wrong or too large"),
+        }
     }
 }
 
@@ -120,20 +112,6 @@ fn sized(args: &[&[u8]]) -> Result<(u16, u16), Mistake>
     pair(size, root)
 }
 
-fn complete(args: &[&[u8]]) -> Result<Command, Mistake>
-    ensures { answer result ≡ complete_of (bytes args.now) }
-{
-    let (size, root) = sized(args)?;
-    Ok(Command::Complete { size, root })
-}
-
-fn table(args: &[&[u8]]) -> Result<Command, Mistake>
-    ensures { answer result ≡ table_of (bytes args.now) }
-{
-    let (size, root) = sized(args)?;
-    Ok(Command::Table { size, root })
-}
-
 fn link(args: &[&[u8]]) -> Result<Command, Mistake>
     ensures { answer result ≡ link_of (bytes args.now) }
 {
@@ -142,27 +120,13 @@ fn link(args: &[&[u8]]) -> Result<Command, Mistake>
     Ok(Command::Link { from, to })
 }
 
-fn check(heap: Global, args: &[&[u8]]) -> Result<Command, Unread>
-    ensures { Reads asked result (check_of (bytes args.now)) }
-{
-    let ports = list(heap, args, Dash::Allowed)?;
-    Ok(Command::Check { ports })
-}
-
 fn filed(heap: Global, args: &[&[u8]]) -> Result<Command, Unread>
     ensures { Reads asked result (filed_of (bytes args.now)) }
 {
     let (first, cells) = args.split_first().ok_or(Mistake::Count)?;
     let depth = small(first)?;
-    let ports = list(heap, cells, Dash::Refused)?;
+    let ports = list(heap, cells, small)?;
     Ok(Command::Filed { depth, ports })
-}
-
-fn cells(heap: Global, args: &[&[u8]]) -> Result<Command, Unread>
-    ensures { Reads asked result (cells_of (bytes args.now)) }
-{
-    let ports = list(heap, args, Dash::Refused)?;
-    Ok(Command::Cells { ports })
 }
 
 fn seeded(args: &[&[u8]]) -> Result<Command, Mistake>
@@ -174,17 +138,10 @@ fn seeded(args: &[&[u8]]) -> Result<Command, Mistake>
     Ok(Command::Seeded { seed, depth })
 }
 
-fn room(args: &[&[u8]]) -> Result<Command, Mistake>
-    ensures { answer result ≡ room_of (bytes args.now) }
-{
-    let records = small(single(args)?)?;
-    Ok(Command::Room { records })
-}
-
 fn listed(heap: Global, args: &[&[u8]]) -> Result<Command, Unread>
     ensures { Reads asked result (listed_of (bytes args.now)) }
 {
-    let vertices = list(heap, args, Dash::Refused)?;
+    let vertices = list(heap, args, small)?;
     Ok(Command::Listed { vertices })
 }
 
@@ -194,30 +151,9 @@ fn order(heap: Global, args: &[&[u8]]) -> Result<Command, Unread>
 {
     match args {
         [] => Err(Unread::Mistake(Mistake::Count)),
-        [word] if is(word, b"walk") => Ok(Command::Walk),
+        [word] if *word == b"walk".as_slice() => Ok(Command::Walk),
         _ => listed(heap, args),
     }
-}
-
-fn try_at(args: &[&[u8]]) -> Result<Command, Mistake>
-    ensures { answer result ≡ try_of (bytes args.now) }
-{
-    let vertex = small(single(args)?)?;
-    Ok(Command::Try { vertex })
-}
-
-fn run(args: &[&[u8]]) -> Result<Command, Mistake>
-    ensures { answer result ≡ run_of (bytes args.now) }
-{
-    let budget = number(single(args)?, u32::MAX).ok_or(Mistake::Number)?;
-    Ok(Command::Run { budget })
-}
-
-fn reseat(heap: Global, args: &[&[u8]]) -> Result<Command, Unread>
-    ensures { Reads asked result (reseat_of (bytes args.now)) }
-{
-    let ports = list(heap, args, Dash::Allowed)?;
-    Ok(Command::Reseat { ports })
 }
 
 // What the words of a line ask for, in a sheet of this scope. A line without words is passed over by the caller; here it names no command.
@@ -227,24 +163,43 @@ pub fn command_of(heap: Global, scope: Scope, words: &[&[u8]]) -> Result<Command
     let (first, args) = words.split_first().ok_or(Mistake::Unknown)?;
     let keyword = keyword_of(scope, first).ok_or(Mistake::Unknown)?;
     let command = match keyword {
-        Keyword::Complete => complete(args)?,
-        Keyword::Table => table(args)?,
+        Keyword::Complete => {
+            let (size, root) = sized(args)?;
+            Command::Complete { size, root }
+        }
+        Keyword::Table => {
+            let (size, root) = sized(args)?;
+            Command::Table { size, root }
+        }
         Keyword::Link => link(args)?,
-        Keyword::Check => check(heap, args)?,
+        Keyword::Check => Command::Check {
+            ports: list(heap, args, port)?,
+        },
         Keyword::Filed => filed(heap, args)?,
-        Keyword::Cells => cells(heap, args)?,
+        Keyword::Cells => Command::Cells {
+            ports: list(heap, args, small)?,
+        },
         Keyword::Seeded => seeded(args)?,
-        Keyword::Room => room(args)?,
+        Keyword::Room => Command::Room {
+            records: small(single(args)?)?,
+        },
         Keyword::Open => alone(args, Command::Open)?,
         Keyword::Order => order(heap, args)?,
-        Keyword::Try => try_at(args)?,
+        Keyword::Try => Command::Try {
+            vertex: small(single(args)?)?,
+        },
         Keyword::Step => alone(args, Command::Step)?,
-        Keyword::Run => run(args)?,
+        Keyword::Run => {
+            let budget = number(single(args)?, u32::MAX).ok_or(Mistake::Number)?;
+            Command::Run { budget }
+        }
         Keyword::Heights => alone(args, Command::Heights)?,
         Keyword::OpenVertices => alone(args, Command::OpenVertices)?,
         Keyword::Records => alone(args, Command::Records)?,
         Keyword::Tree => alone(args, Command::Tree)?,
-        Keyword::Reseat => reseat(heap, args)?,
+        Keyword::Reseat => Command::Reseat {
+            ports: list(heap, args, port)?,
+        },
         Keyword::Help => alone(args, Command::Help { scope })?,
     };
     Ok(command)

@@ -2,7 +2,6 @@
 ghost use Rattle.std.specs.Prelude.{◌≡◌};
 ghost use Rattle.commands.specs.Commands.{hall_keyword, draw_keyword, keyword_of};
 
-use crate::args::is;
 use crate::scope::Scope;
 
 #[derive(Clone, Copy)]
@@ -29,58 +28,39 @@ pub(crate) enum Keyword {
 }
 
 // A command on plans and trees, or `help`.
-fn hall_keyword(word: &[u8]) -> Option<Keyword>
+fn hall_keyword(word: &str) -> Option<Keyword>
     ensures { result ≡ hall_keyword word.now }
 {
-    if is(word, b"complete") {
-        Some(Keyword::Complete)
-    } else if is(word, b"table") {
-        Some(Keyword::Table)
-    } else if is(word, b"link") {
-        Some(Keyword::Link)
-    } else if is(word, b"check") {
-        Some(Keyword::Check)
-    } else if is(word, b"help") {
-        Some(Keyword::Help)
-    } else {
-        None
+    match word {
+        "complete" => Some(Keyword::Complete),
+        "table" => Some(Keyword::Table),
+        "link" => Some(Keyword::Link),
+        "check" => Some(Keyword::Check),
+        "help" => Some(Keyword::Help),
+        _ => None,
     }
 }
 
 // A command on arrows and draws.
-fn draw_keyword(word: &[u8]) -> Option<Keyword>
+fn draw_keyword(word: &str) -> Option<Keyword>
     ensures { result ≡ draw_keyword word.now }
 {
-    if is(word, b"filed") {
-        Some(Keyword::Filed)
-    } else if is(word, b"cells") {
-        Some(Keyword::Cells)
-    } else if is(word, b"seeded") {
-        Some(Keyword::Seeded)
-    } else if is(word, b"room") {
-        Some(Keyword::Room)
-    } else if is(word, b"open") {
-        Some(Keyword::Open)
-    } else if is(word, b"order") {
-        Some(Keyword::Order)
-    } else if is(word, b"try") {
-        Some(Keyword::Try)
-    } else if is(word, b"step") {
-        Some(Keyword::Step)
-    } else if is(word, b"run") {
-        Some(Keyword::Run)
-    } else if is(word, b"heights") {
-        Some(Keyword::Heights)
-    } else if is(word, b"open?") {
-        Some(Keyword::OpenVertices)
-    } else if is(word, b"records") {
-        Some(Keyword::Records)
-    } else if is(word, b"tree") {
-        Some(Keyword::Tree)
-    } else if is(word, b"reseat") {
-        Some(Keyword::Reseat)
-    } else {
-        None
+    match word {
+        "filed" => Some(Keyword::Filed),
+        "cells" => Some(Keyword::Cells),
+        "seeded" => Some(Keyword::Seeded),
+        "room" => Some(Keyword::Room),
+        "open" => Some(Keyword::Open),
+        "order" => Some(Keyword::Order),
+        "try" => Some(Keyword::Try),
+        "step" => Some(Keyword::Step),
+        "run" => Some(Keyword::Run),
+        "heights" => Some(Keyword::Heights),
+        "open?" => Some(Keyword::OpenVertices),
+        "records" => Some(Keyword::Records),
+        "tree" => Some(Keyword::Tree),
+        "reseat" => Some(Keyword::Reseat),
+        _ => None,
     }
 }
 
@@ -88,6 +68,7 @@ fn draw_keyword(word: &[u8]) -> Option<Keyword>
 pub(crate) fn keyword_of(scope: Scope, word: &[u8]) -> Option<Keyword>
     ensures { result ≡ keyword_of scope word.now }
 {
+    let word = str::from_utf8(word).ok()?;
     match scope {
         Scope::Halls => hall_keyword(word),
         Scope::Draws => hall_keyword(word).or_else(|| draw_keyword(word)),
