@@ -1,3 +1,4 @@
 pub mod Desks
 pub mod Renewals
 pub mod Said
+pub mod Texts

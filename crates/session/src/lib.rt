@@ -5,3 +5,4 @@
 pub mod answer;
 mod hall;
 pub mod session;
+mod text;

@@ -1,17 +1,19 @@
 -- What a line of a sheet does and writes. Assumes nothing.
-use Rattle.std.specs.Prelude.{◌≡◌, ℕ, ◌⊎◌, List, [], ◌∷◌, ◌++◌, Some, None, Ok, Err, string_bytes, Option, Result}
+use Rattle.std.specs.Prelude.{◌≡◌, ℕ, ◌⊎◌, List, [], ◌∷◌, ◌++◌, Some, None, Ok, Err, codes, string_bytes, Option, Result}
 use Rattle.tokens.specs.Words.{words_of}
 use Rattle.commands.specs.Commands.{Asked, command_of}
 use Rattle.commands.specs.Told.{told}
 use Rattle.commands.specs.declared.command.Mistake.{Mistake}
 use Rattle.commands.specs.declared.scope.Scope.{Scope}
+use Rattle.model.specs.Words.{fault_words}
+use Rattle.model.specs.declared.fault.DrawFault.{DrawFault}
 use Rattle.session.specs.Desks.{Desk, before, Takes}
-use Rattle.session.specs.Said as says
 use Rattle.session.specs.Said.{Said}
 use Rattle.session.specs.declared.answer.Due.{Due}
 use Rattle.session.specs.declared.answer.Due.TheVariants.{Table, FewCells}
-use Rattle.session.specs.declared.answer.Misplaced.{Misplaced}
-use Rattle.sheet.specs.Texts.{answer_text, line_text, misplaced_word, due_text}
+use Rattle.session.specs.declared.answer.Refusal.{Refusal}
+use Rattle.session.specs.declared.answer.Refusal.TheVariants.{Misplaced, Fault}
+use Rattle.session.specs.Texts.{answer_text, line_text, misplaced_word, due_text}
 use Rattle.sheet.specs.declared.line.Outcome.{Outcome}
 use Rattle.sheet.specs.declared.line.Outcome.TheVariants.{Fine, Refused, Bad}
 use Rattle.sheet.specs.declared.line.Reply.{Reply}
@@ -39,37 +41,29 @@ due_outcome None = Fine
 due_outcome (Some (Table n r l)) = Fine
 due_outcome (Some (FewCells i)) = Bad
 
+-- a refusal by the library, by its fault
+abbrev pub refused_text : DrawFault → List ℕ
+refused_text e = codes "refused " ++ (fault_words e ++ codes "\n")
+
 -- what the command at line i is answered with
-abbrev pub answered_text : ℕ → Result Said Misplaced → List ℕ
+abbrev pub answered_text : ℕ → Result Said Refusal → List ℕ
 answered_text i (Ok a) = answer_text a
-answered_text i (Err m) = line_text i (misplaced_word m)
+answered_text i (Err (Misplaced m)) = line_text i (misplaced_word m)
+answered_text i (Err (Fault e)) = refused_text e
 
 -- how it went, by its answer
-abbrev pub answer_outcome : Result Said Misplaced → Outcome
-answer_outcome (Ok says.silent) = Fine
-answer_outcome (Ok (says.complete n r)) = Fine
-answer_outcome (Ok (says.checked t)) = Fine
-answer_outcome (Ok (says.filed d)) = Fine
-answer_outcome (Ok (says.seeded s d)) = Fine
-answer_outcome (Ok (says.begun n r)) = Fine
-answer_outcome (Ok (says.tried t)) = Fine
-answer_outcome (Ok (says.ran tries why)) = Fine
-answer_outcome (Ok (says.heights hs)) = Fine
-answer_outcome (Ok (says.open_vertices vs)) = Fine
-answer_outcome (Ok (says.records ps)) = Fine
-answer_outcome (Ok (says.tree ports)) = Fine
-answer_outcome (Ok (says.cells ports)) = Fine
-answer_outcome (Ok (says.refused e)) = Refused
-answer_outcome (Ok (says.commands scope)) = Fine
-answer_outcome (Err m) = Bad
+abbrev pub answer_outcome : Result Said Refusal → Outcome
+answer_outcome (Ok a) = Fine
+answer_outcome (Err (Misplaced m)) = Bad
+answer_outcome (Err (Fault e)) = Refused
 
 -- what line i writes, and how it went: first what is due, then the answer
-abbrev pub reply_of : ℕ → Option Due → Result Said Misplaced → List ℕ × Outcome
+abbrev pub reply_of : ℕ → Option Due → Result Said Refusal → List ℕ × Outcome
 reply_of i due result = (due_lines due ++ answered_text i result, worse (due_outcome due) (answer_outcome result))
 
 -- the command c at line i is done: first what is due, then what it does
 pub record Obeyed (d : Desk) (i : ℕ) (c : Asked) (reply : List ℕ × Outcome) (after : Desk) : Type 0 where
-  pub result : Result Said Misplaced
+  pub result : Result Said Refusal
   pub takes : Takes (before c d).1 i c result after
   pub replies : reply ≡ reply_of i (before c d).0 result
 

@@ -3,6 +3,4 @@
 #![tactic(auto)]
 
 mod line;
-mod lists;
-mod text;
 pub mod whole;

@@ -1,41 +1,26 @@
 // One line of a sheet, from its bytes to what is written.
 ghost use Rattle.std.specs.Prelude.{◌≡◌, IfOk, string_bytes, MatchResult};
 ghost use Rattle.commands.specs.Answers.{asked};
+ghost use Rattle.commands.specs.Told.{told};
 ghost use Rattle.session.specs.Desks.{desk_of};
 ghost use Rattle.session.specs.Said.{said_so};
-ghost use Rattle.sheet.specs.Lines.{worse, due_lines, due_outcome, answered_text, answer_outcome, reply_of, Obeyed, SomeObeyed, Replied, Untold, shown};
+ghost use Rattle.session.specs.Texts.{line_text};
+ghost use Rattle.sheet.specs.Lines.{due_lines, due_outcome, answered_text, answer_outcome, reply_of, Obeyed, SomeObeyed, Replied, Untold, shown};
 
-use crate::text::{answer_text, due_text, misplaced_text, mistake_text};
-use commands::command::{Command, Unread, command_of};
+use commands::command::{Command, Mistake, Unread, command_of};
 use commands::scope::Scope;
-use session::answer::{Answer, Due, Misplaced};
+use session::answer::{Answer, Due, Refusal};
 use session::session::Session;
 use std::alloc::{AllocError, Global};
 use tokens::words::words;
 
-// How a line went.
-#[derive(Clone, Copy)]
+// How a line went, from the best to the worst.
+#[derive(Clone, Copy, PartialEq, Eq, PartialOrd, Ord, Debug)]
 pub(crate) enum Outcome {
     Fine,
     Refused,
     // It is no command, it is out of place, or filed arrows before it lack cells.
     Bad,
-}
-
-impl Outcome {
-    // Of two outcomes the worse: a bad line is worse than a refusal.
-    pub(crate) fn worse(self, other: Outcome) -> Outcome
-        ensures { result ≡ worse self other }
-    {
-        match self {
-            Outcome::Fine => other,
-            Outcome::Refused => match other {
-                Outcome::Bad => Outcome::Bad,
-                _ => Outcome::Refused,
-            },
-            Outcome::Bad => Outcome::Bad,
-        }
-    }
 }
 
 #[derive(Drop)]
@@ -49,7 +34,7 @@ pub(crate) fn due_lines(heap: Global, due: Option<Due>) -> Result<String, AllocE
     ensures { IfOk result (λ s. string_bytes s ≡ due_lines due) }
 {
     match due {
-        Some(due) => due_text(heap, due),
+        Some(due) => format!(in heap; "{due}"),
         None => Ok(String::new(heap)),
     }
 }
@@ -67,23 +52,24 @@ pub(crate) fn due_outcome(due: Option<Due>) -> Outcome
 fn answered_text(
     heap: Global,
     number: usize,
-    answer: &Result<Answer, Misplaced>,
+    answer: &Result<Answer, Refusal>,
 ) -> Result<String, AllocError>
     ensures { IfOk result (λ s. string_bytes s ≡ answered_text number (said_so answer.now)) }
 {
     match answer {
-        Ok(answer) => answer_text(heap, answer),
-        Err(misplaced) => misplaced_text(heap, number, *misplaced),
+        Ok(answer) => format!(in heap; "{answer}"),
+        Err(Refusal::Misplaced(misplaced)) => format!(in heap; "line {number}: {misplaced}\n"),
+        Err(Refusal::Fault(fault)) => format!(in heap; "refused {fault}\n"),
     }
 }
 
-fn answer_outcome(answer: &Result<Answer, Misplaced>) -> Outcome
+fn answer_outcome(answer: &Result<Answer, Refusal>) -> Outcome
     ensures { result ≡ answer_outcome (said_so answer.now) }
 {
     match answer {
-        Ok(Answer::Refused(_)) => Outcome::Refused,
         Ok(_) => Outcome::Fine,
-        Err(_) => Outcome::Bad,
+        Err(Refusal::Fault(_)) => Outcome::Refused,
+        Err(Refusal::Misplaced(_)) => Outcome::Bad,
     }
 }
 
@@ -92,14 +78,13 @@ fn worded(
     heap: Global,
     number: usize,
     due: Option<Due>,
-    answer: &Result<Answer, Misplaced>,
+    answer: &Result<Answer, Refusal>,
 ) -> Result<Reply, AllocError>
     ensures { IfOk result (λ a. shown a ≡ reply_of number due (said_so answer.now)) }
 {
     let mut text = due_lines(heap, due)?;
-    let rest = answered_text(heap, number, answer)?;
-    text.push_str(rest.as_str())?;
-    let outcome = due_outcome(due).worse(answer_outcome(answer));
+    text.push_str(answered_text(heap, number, answer)?.as_str())?;
+    let outcome = due_outcome(due).max(answer_outcome(answer));
     Ok(Reply { text, outcome })
 }
 
@@ -116,6 +101,12 @@ fn obey(
     worded(heap, number, due, &answer)
 }
 
+fn mistake_text(heap: Global, number: usize, mistake: Mistake) -> Result<String, AllocError>
+    ensures { IfOk result (λ s. string_bytes s ≡ line_text number (told mistake)) }
+{
+    format!(in heap; "line {number}: {mistake}\n")
+}
+
 // Does the line and words what is written for it. Where it fails for want of memory, the sheet cannot go on.
 pub(crate) fn do_line(
     session: &mut Session,
@@ -128,17 +119,17 @@ pub(crate) fn do_line(
 {
     let words = words(heap, line)?;
     if words.is_empty() {
-        let text = String::new(heap);
-        let outcome = Outcome::Fine;
-        return Ok(Reply { text, outcome });
+        return Ok(Reply {
+            text: String::new(heap),
+            outcome: Outcome::Fine,
+        });
     }
     match command_of(heap, scope, words.as_slice()) {
         Ok(command) => obey(session, heap, number, command),
-        Err(Unread::Mistake(mistake)) => {
-            let text = mistake_text(heap, number, mistake)?;
-            let outcome = Outcome::Bad;
-            Ok(Reply { text, outcome })
-        }
+        Err(Unread::Mistake(mistake)) => Ok(Reply {
+            text: mistake_text(heap, number, mistake)?,
+            outcome: Outcome::Bad,
+        }),
         Err(Unread::NoMemory(full)) => Err(full),
     }
 }

@@ -35,7 +35,7 @@ impl Sheet {
         let number = self.lines.saturating_add(1);
         self.lines = number;
         let Reply { text, outcome } = do_line(&mut self.session, heap, self.scope, number, line)?;
-        self.worst = self.worst.worse(outcome);
+        self.worst = self.worst.max(outcome);
         Ok(text)
     }
 
@@ -45,7 +45,7 @@ impl Sheet {
         ensures after { sheet_of self.new ≡ closed (sheet_of self.old) }
     {
         let due = self.session.close();
-        self.worst = self.worst.worse(due_outcome(due));
+        self.worst = self.worst.max(due_outcome(due));
         due_lines(heap, due)
     }
 
