@@ -1,9 +1,10 @@
 -- What `first` and `lowest` find. Assumes nothing.
 use Rattle.std.proofs.Common.{◌≡◌, ℕ, zero, suc, ◌<◌, Bool, true, false, cond, Some, None, Option, sym, refl, ap, subst, ⊎_elim, arith, MatchOption}
 use Rattle.std.specs.Option.{option_or}
+use Rattle.std.proofs.lemmas.Option.{cond_some}
 use Rattle.std.proofs.lemmas.Bool.{both_ways, cases_lt, cases_order}
 use Rattle.model.specs.Picks.{first, lowest}
-use Rattle.model.proofs.Ways.{none_some, same_some}
+use Rattle.model.proofs.Ways.{none_some}
 
 module _ {A : Type 0} (g : ℕ → Option A) where
   abbrev pub NoAnswer : ℕ → Type 0
@@ -52,13 +53,6 @@ module _ (test : ℕ → Bool) where
       by true is = absurd (none_some (Some u) u is refl)
       by false is = refl
 
-  holds : (u v : ℕ) → answer u ≡ Some v → (u ≡ v) × (test u ≡ true)
-  holds u v = by (test u)
-    where
-      by : (b : Bool) → cond b (Some u) None ≡ Some v → (u ≡ v) × (b ≡ true)
-      by true is = (same_some (Some u) u v refl is, refl)
-      by false is = absurd (none_some None v refl is)
-
   -- the lowest number that passes, or the fact that none does
   pub lowest_tells : (n : ℕ) → MatchOption (lowest test n) (NoneBelow n) (λ v. IsLowest n v)
   lowest_tells n = by (lowest test n) (first_tells answer n)
@@ -66,7 +60,7 @@ module _ (test : ℕ → Bool) where
       by : (o : Option ℕ) → MatchOption o (NoAnswer answer n) (λ x. IsFirst answer n x) → MatchOption o (NoneBelow n) (λ v. IsLowest n v)
       by None none = λ u below. fails u (none u below)
       by (Some v) found =
-          let (same, passed) = holds found.at v found.answer in
+          let (passed, same) = cond_some (test found.at) found.at v found.answer in
           record {
             within = subst (λ x. x < n) same found.within;
             passes = subst (λ x. test x ≡ true) same passed;

@@ -1,11 +1,9 @@
 -- The law of the tree check: each answer comes exactly where it is right. Assumes nothing.
-use Rattle.std.proofs.Common.{◌≡◌, ℕ, ◌<◌, ◌≤◌, Bool, true, false, cond, not, eqb, ltb, List, length, get_or, Some, None, Ok, Err, Option, Result, refl, subst, ⊎_elim, arith, MatchOption}
+use Rattle.std.proofs.Common.{◌≡◌, ℕ, ◌<◌, ◌≤◌, Bool, true, false, cond, not, eqb, ltb, List, length, get_or, Some, None, Ok, Err, Option, refl, subst, ⊎_elim, arith, MatchOption}
 use Rattle.std.proofs.lemmas.Bool.{eq-eqb, ltb-true, ltb-false, not-true, not-false, both_ways, cond-true, cases_lt, cases_order}
 use Rattle.model.specs.Layouts.{Layout, Sound, is_root}
 use Rattle.model.specs.Trees.{follow, comes_to, lowest_lost, verdict, tree_check, Reaches, IsTree, IsLost, TreeLaw}
-use Rattle.model.specs.declared.fault.DrawFault.{DrawFault}
 use Rattle.model.specs.declared.fault.DrawFault.TheVariants.{Short}
-use Rattle.model.specs.declared.tree.TreeCheck.{TreeCheck}
 use Rattle.model.specs.declared.tree.TreeCheck.TheVariants.{Tree, Lost}
 use Rattle.model.proofs.Lowest.{IsLowest, NoneBelow, lowest_tells}
 use Rattle.model.proofs.Reaching.{leads, comes}
@@ -51,51 +49,33 @@ module _ (p : Layout) (sound : Sound p) (ports : List ℕ) where
 
   law_short : length ports < p.size → TreeLaw p ports (Err Short)
   law_short few = record {
-    yes = λ e. absurd (clash e);
+    yes = λ e. absurd (cc);
     only_yes = λ t. absurd (omega (arith, t.enough));
-    named = λ v e. absurd (clash e);
+    named = λ v e. absurd (cc);
     only_named = λ v l. absurd (omega (arith, l.enough));
     short = λ e is. (few, cc);
     only_short = λ _. refl;
   }
-    where
-      clash : {x : TreeCheck} → ◌≡◌ {A = Result TreeCheck DrawFault} (Err Short) (Ok x) → ⊥
-      clash e = let z : ◌≡◌ {A = ℕ} 0 1 = cc in omega arith
 
   law_tree : IsTree p ports → TreeLaw p ports (Ok Tree)
   law_tree t = record {
     yes = λ _. t;
     only_yes = λ _. refl;
-    named = λ v e. absurd (clash e);
+    named = λ v e. absurd (cc);
     only_named = λ v l. absurd (l.no_way (t.all_reach v l.within));
-    short = λ e is. absurd (right is);
+    short = λ e is. absurd (cc);
     only_short = λ few. absurd (omega (arith, t.enough));
   }
-    where
-      clash : {v : ℕ} → ◌≡◌ {A = Result TreeCheck DrawFault} (Ok Tree) (Ok (Lost v)) → ⊥
-      clash e = let z : ◌≡◌ {A = ℕ} 0 1 = cc in omega arith
-
-      right : {e : DrawFault} → ◌≡◌ {A = Result TreeCheck DrawFault} (Ok Tree) (Err e) → ⊥
-      right e = let z : ◌≡◌ {A = ℕ} 0 1 = cc in omega arith
 
   law_lost : (v : ℕ) → IsLost p ports v → TreeLaw p ports (Ok (Lost v))
   law_lost v l = record {
-    yes = λ e. absurd (clash e);
+    yes = λ e. absurd (cc);
     only_yes = λ t. absurd (l.no_way (t.all_reach v l.within));
-    named = λ u e. subst (IsLost p ports) (same e) l;
+    named = λ u e. subst (IsLost p ports) {x = v} {y = u} (cc) l;
     only_named = λ u m. let e : v ≡ u = one_lost v u l m in cc;
-    short = λ e is. absurd (right is);
+    short = λ e is. absurd (cc);
     only_short = λ few. absurd (omega (arith, l.enough));
   }
-    where
-      clash : ◌≡◌ {A = Result TreeCheck DrawFault} (Ok (Lost v)) (Ok Tree) → ⊥
-      clash e = let z : ◌≡◌ {A = ℕ} 0 1 = cc in omega arith
-
-      right : {e : DrawFault} → ◌≡◌ {A = Result TreeCheck DrawFault} (Ok (Lost v)) (Err e) → ⊥
-      right e = let z : ◌≡◌ {A = ℕ} 0 1 = cc in omega arith
-
-      same : {u : ℕ} → ◌≡◌ {A = Result TreeCheck DrawFault} (Ok (Lost v)) (Ok (Lost u)) → v ≡ u
-      same e = cc
 
   law_verdict : p.size ≤ length ports → (o : Option ℕ) → MatchOption o (NoneBelow lost p.size) (λ v. IsLowest lost p.size v) → TreeLaw p ports (Ok (verdict o))
   law_verdict enough None none = law_tree (record { enough = enough; all_reach = λ v within. not_lost v (none v within) })

@@ -1,7 +1,7 @@
 // The order that a list of vertices gives.
 ghost use Rattle.std.specs.Prelude.{◌≡◌};
 ghost use Rattle.model.specs.Orders.{open_marks};
-ghost use Rattle.model.specs.Walks.{filed_at, next_place};
+ghost use Rattle.model.specs.Walks.{filed_at};
 ghost use Rattle.orders.specs.Lawful.{filed_lawful};
 ghost use Rattle.orders.specs.Told.{filed_told, filed_pick};
 
@@ -33,13 +33,6 @@ impl FiledOrder {
     }
 }
 
-// The next place of a list of `count` vertices.
-fn next_place(count: usize, place: usize) -> usize
-    ensures { result ≡ next_place count place }
-{
-    if place < count { place + 1 } else { place }
-}
-
 impl Order for FiledOrder {
     ghost picks = { filed_pick };
 
@@ -51,7 +44,9 @@ impl Order for FiledOrder {
         or_lowest(entries, self.at_place(entries))
     }
 
-    fn tell(&mut self, v: u16) {
-        self.place = next_place(self.vertices.len(), self.place);
+    fn tell(&mut self, _v: u16) {
+        if self.place < self.vertices.len() {
+            self.place += 1;
+        }
     }
 }

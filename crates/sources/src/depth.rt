@@ -25,7 +25,7 @@ fn depth_fits(depth: u16) -> bool
 fn cells_fit(size: u16, depth: u16) -> bool
     ensures { result ≡ cells_fit size depth }
 {
-    depth_fits(depth) & (cell_count(size, depth) <= MOST_CELLS)
+    depth_fits(depth) && cell_count(size, depth) <= MOST_CELLS
 }
 
 fn limit_unless(fits: bool) -> Result<(), DrawFault>

@@ -1,6 +1,5 @@
 // Arrows from a list of ports.
 ghost use Rattle.std.specs.Prelude.{◌≡◌};
-ghost use Rattle.std.specs.List.{slice_get};
 ghost use Rattle.sources.specs.Lists.{listed};
 
 use crate::listing::Listing;
@@ -14,16 +13,11 @@ pub struct Filed<L> {
     pub ports: L,
 }
 
-fn port_at(ports: &[u16], at: usize) -> Option<u16>
-    ensures { result ≡ slice_get ports.now at }
-{
-    ports.get(at).copied()
-}
-
 impl<L: AsSlice<u16>> ArrowSource for Filed<L> {
     ghost cells = { λ f. listed f.listing (L.items f.ports) };
 
     fn port(&self, v: u16, index: u16, _degree: u16) -> Option<u16> {
-        port_at(self.ports.as_slice(), self.listing.place(v, index)?)
+        let at = self.listing.place(v, index)?;
+        self.ports.as_slice().get(at).copied()
     }
 }

@@ -45,20 +45,18 @@ impl Listing {
     }
 
     // There is no cell at the root, at what is no vertex, and from the depth on.
-    // `|` and not `||`: each part may be asked whatever the others say.
     fn lacks(&self, v: u16, index: u16) -> bool
         ensures { result ≡ lacks_cell self.now.size self.now.root self.now.depth v index }
     {
-        (v == self.root) | ((self.size <= v) | (self.depth <= index))
+        v == self.root || self.size <= v || self.depth <= index
     }
 
     pub fn place(&self, v: u16, index: u16) -> Option<usize>
         ensures { result ≡ place self.now.size self.now.root self.now.depth v index }
     {
         if self.lacks(v, index) {
-            None
-        } else {
-            Some(self.rank(v) as usize * self.depth as usize + index as usize)
+            return None;
         }
+        Some(self.rank(v) as usize * self.depth as usize + index as usize)
     }
 }

@@ -16,18 +16,26 @@ pub struct Seeded {
     pub seed: u64,
 }
 
+impl Seeded {
+    // The state steps by a constant, so that every output can be had without those before it.
+    fn state_at(&self, number: u64) -> u64
+        ensures { result ≡ state_at self.now.seed number }
+    {
+        self.seed.wrapping_add(STEP.wrapping_mul(number))
+    }
+
+    fn word(&self, v: u16, index: u16) -> u64
+        ensures { result ≡ seeded_word self.now.seed v index }
+    {
+        scrambled(self.state_at(output_number(v, index)))
+    }
+}
+
 // Outputs count from 1, and each vertex has 4,096 of its own.
 fn output_number(v: u16, index: u16) -> u64
     ensures { result ≡ output_number v index }
 {
     v as u64 * 4096 + index as u64 + 1
-}
-
-// The state steps by a constant, so that every output can be had without those before it.
-fn state_at(seed: u64, number: u64) -> u64
-    ensures { result ≡ state_at seed number }
-{
-    seed.wrapping_add(STEP.wrapping_mul(number))
 }
 
 fn scrambled(state: u64) -> u64
@@ -38,16 +46,10 @@ fn scrambled(state: u64) -> u64
     twice ^ (twice >> 31)
 }
 
-fn word(seed: u64, v: u16, index: u16) -> u64
-    ensures { result ≡ seeded_word seed v index }
-{
-    scrambled(state_at(seed, output_number(v, index)))
-}
-
 fn lacks_word(v: u16, index: u16, degree: u16) -> bool
     ensures { result ≡ lacks_word v index degree }
 {
-    (degree == 0) | ((1023 < v) | (4095 < index))
+    degree == 0 || 1023 < v || 4095 < index
 }
 
 impl ArrowSource for Seeded {
@@ -55,9 +57,8 @@ impl ArrowSource for Seeded {
 
     fn port(&self, v: u16, index: u16, degree: u16) -> Option<u16> {
         if lacks_word(v, index, degree) {
-            None
-        } else {
-            Some((word(self.seed, v, index) % degree as u64) as u16)
+            return None;
         }
+        Some((self.word(v, index) % degree as u64) as u16)
     }
 }

@@ -27,16 +27,9 @@ impl Span {
         requires { self.degree < 1023 }
         ensures { result ≡ grown self end }
     {
-        if self.degree == 0 {
-            Span {
-                first: end,
-                degree: 1,
-            }
-        } else {
-            Span {
-                first: self.first,
-                degree: self.degree + 1,
-            }
+        Span {
+            first: if self.degree == 0 { end } else { self.first },
+            degree: self.degree + 1,
         }
     }
 }

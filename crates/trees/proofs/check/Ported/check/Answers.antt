@@ -1,6 +1,10 @@
 use Rattle.std.proofs.Common.{arith, below_more}
 use Rattle.std.proofs.lemmas.Bool.Decides.{when_true}
-use Rattle.trees.proofs.check.lowest_lost.Goals as goal
+use Rattle.trees.proofs.Walks.{unmarked}
+use Rattle.trees.proofs.check.Ported.check.Goals as goal
+
+pub loop-v-init : goal.loop-v-init
+loop-v-init g c = (unmarked (g.P.Plan.layout c.args.self.now.plan.now) c.args.self.now.ports.now 1024, λ u below. absurd (omega arith))
 
 pub loop-v-preserved : goal.loop-v-preserved
 loop-v-preserved g c =
@@ -10,6 +14,6 @@ loop-v-preserved g c =
 
 pub returns : goal.returns
 returns g c = record {
-  enough = c.requires.enough;
+  enough = c.args.self.now.enough;
   all_reach = λ v within. c.loop-v.invariant.1 v (omega (arith, c.size-v-end.ensures, c.loop-v-test.false));
 }

@@ -1,7 +1,0 @@
-use Rattle.std.proofs.Common.{ℕ, ◌<◌}
-use Rattle.model.specs.Trees.{Reaches}
-use Rattle.trees.specs.Marks.{Marked}
-use Rattle.trees.proofs.check.lowest_lost.Given as goal
-
-abbrev pub invariant-loop-v : goal.invariant-loop-v
-invariant-loop-v g l = let p = g.P.Plan.layout l.plan in Marked p l.ports l.v l.marks × ((u : ℕ) → u < l.v → Reaches p l.ports u)
