@@ -1,6 +1,5 @@
 // Reads the words after a command's name.
 ghost use Rattle.std.specs.Prelude.{◌≡◌, ℕ, List, Result, vec_items};
-ghost use Rattle.std.specs.Str.{bytes_eq};
 ghost use Rattle.commands.specs.declared.command.Mistake.{Mistake};
 ghost use Rattle.commands.specs.Args.{meant, Reads, Computes, small_of, port_of, list_of, pair_of, single_of, two_of, around_of};
 ghost use Rattle.tokens.specs.Words.{bytes};

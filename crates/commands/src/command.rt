@@ -2,7 +2,7 @@
 ghost use Rattle.std.specs.Prelude.{◌≡◌, Some, alloc_error};
 ghost use Rattle.commands.specs.Args.{Reads};
 ghost use Rattle.commands.specs.Answers.{asked, answer};
-ghost use Rattle.commands.specs.Commands.{alone_of, sized_of, complete_of, table_of, link_of, check_of, filed_of, cells_of, seeded_of, room_of, listed_of, order_of, try_of, run_of, reseat_of, command_of};
+ghost use Rattle.commands.specs.Commands.{alone_of, sized_of, link_of, filed_of, seeded_of, listed_of, order_of, command_of};
 ghost use Rattle.commands.specs.Told.{told};
 ghost use Rattle.commands.specs.declared.command.Unread.TheVariants as unread;
 ghost use Rattle.tokens.specs.Words.{bytes};
