@@ -1,8 +1,7 @@
 -- Bytes that are no text name no command. Assumes nothing.
-use Rattle.std.proofs.Common.{◌≡◌, ℕ, zero, suc, Bool, true, false, cond, ltb, List, [], ◌∷◌, arith, None, Some, Option, Result, sym, refl, ap, ◌∙◌, subst, Err, Ok, MatchResult}
+use Rattle.std.proofs.Common.{◌≡◌, ℕ, zero, suc, Bool, true, false, cond, ltb, List, [], ◌∷◌, arith, None, Some, Option, sym, refl, ap, ◌∙◌, subst}
 use Rattle.std.proofs.lemmas.Slice.Eq.{bytes_eq-Decides}
 use Rattle.std.specs.Option.{option_or}
-use Rattle.std.specs.Result.{result_ok}
 use Rattle.std.proofs.lemmas.Bool.{and_parts, ltb-true}
 use Rattle.std.proofs.lemmas.Str.{IsUtf8-from_ascii}
 use Rattle.std.specs.List.{list_all}
@@ -40,8 +39,3 @@ module _ (word : List ℕ) (bare : IsUtf8 word → ⊥) where
   pub no_keyword : (scope : Scope) → None ≡ keyword_of scope word
   no_keyword Halls = no_hall
   no_keyword Draws = no_draw ∙ ap (λ (k : Option Keyword). option_or k (draw_keyword word)) no_hall
-
--- what a clause says of a result that was passed on as an option
-pub refused : {X E : Type 0} (r : Result X E) (P : X → Type 0) (Q : E → Type 0) → MatchResult r P Q → None ≡ result_ok r → (e : E) × Q e
-refused (Ok x) P Q h none = absurd (cc)
-refused (Err e) P Q h none = (e, h)

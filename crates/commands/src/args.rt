@@ -1,8 +1,7 @@
 // Reads the words after a command's name.
 ghost use Rattle.std.specs.Prelude.{◌≡◌, ℕ, List, Result, vec_items};
-ghost use Rattle.std.specs.Str.{bytes_eq};
 ghost use Rattle.commands.specs.declared.command.Mistake.{Mistake};
-ghost use Rattle.commands.specs.Args.{meant, Reads, Computes, small_of, port_of, list_of, pair_of, single_of, two_of, around_of};
+ghost use Rattle.commands.specs.Args.{meant, Reads, Computes, small_of, port_of, list_of, pair_of, single_of, around_of};
 ghost use Rattle.tokens.specs.Words.{bytes};
 
 use crate::command::{Mistake, Unread};
@@ -13,7 +12,9 @@ use tokens::number::number;
 pub(crate) fn small(word: &[u8]) -> Result<u16, Mistake>
     ensures { result ≡ small_of word.now }
 {
-    number(word, 65535).map(|n| n as u16).ok_or(Mistake::Number)
+    number(word, u16::MAX.into())
+        .map(|n| n as u16)
+        .ok_or(Mistake::Number)
 }
 
 // A port, or `-` for the root's.
@@ -59,16 +60,6 @@ pub(crate) fn single<'a>(args: &[&'a [u8]]) -> Result<&'a [u8], Mistake>
         return Err(Mistake::Count);
     };
     Ok(word)
-}
-
-// The two words.
-pub(crate) fn two<'a>(args: &[&'a [u8]]) -> Result<(&'a [u8], &'a [u8]), Mistake>
-    ensures { meant (λ w. (w.0.now, w.1.now)) result ≡ two_of (bytes args.now) }
-{
-    let [left, right] = args else {
-        return Err(Mistake::Count);
-    };
-    Ok((left, right))
 }
 
 // The two words around `text`; another word in its place is the mistake `missing`.

@@ -2,12 +2,12 @@
 ghost use Rattle.std.specs.Prelude.{◌≡◌, Some, alloc_error};
 ghost use Rattle.commands.specs.Args.{Reads};
 ghost use Rattle.commands.specs.Answers.{asked, answer};
-ghost use Rattle.commands.specs.Commands.{alone_of, sized_of, complete_of, table_of, link_of, check_of, filed_of, cells_of, seeded_of, room_of, listed_of, order_of, try_of, run_of, reseat_of, command_of};
+ghost use Rattle.commands.specs.Commands.{alone_of, sized_of, link_of, filed_of, seeded_of, listed_of, order_of, command_of};
 ghost use Rattle.commands.specs.Told.{told};
 ghost use Rattle.commands.specs.declared.command.Unread.TheVariants as unread;
 ghost use Rattle.tokens.specs.Words.{bytes};
 
-use crate::args::{around, list, pair, port, single, small, two};
+use crate::args::{around, list, pair, port, single, small};
 use crate::keyword::{Keyword, keyword_of};
 use crate::scope::Scope;
 use std::alloc::{AllocError, AllocFailed, Global};
@@ -115,7 +115,9 @@ fn sized(args: &[&[u8]]) -> Result<(u16, u16), Mistake>
 fn link(args: &[&[u8]]) -> Result<Command, Mistake>
     ensures { answer result ≡ link_of (bytes args.now) }
 {
-    let (left, right) = two(args)?;
+    let [left, right] = args else {
+        return Err(Mistake::Count);
+    };
     let (from, to) = pair(left, right)?;
     Ok(Command::Link { from, to })
 }
@@ -150,7 +152,7 @@ fn order(heap: Global, args: &[&[u8]]) -> Result<Command, Unread>
     ensures { Reads asked result (order_of (bytes args.now)) }
 {
     match args {
-        [] => Err(Unread::Mistake(Mistake::Count)),
+        [] => Err(Mistake::Count.into()),
         [word] if *word == b"walk".as_slice() => Ok(Command::Walk),
         _ => listed(heap, args),
     }

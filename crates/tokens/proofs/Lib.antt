@@ -1,4 +1,4 @@
 mod Cuts
 mod Laws
-mod Readings
+pub mod Readings
 mod Writings

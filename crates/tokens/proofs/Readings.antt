@@ -1,42 +1,39 @@
 -- A word is read as the library reads it. Assumes nothing.
 use Rattle.std.proofs.Common.{◌≡◌, ℕ, zero, suc, ◌^◌, ◌<◌, ◌≤◌, Bool, true, false, cond, ◌&&◌, eqb, ltb, leb, List, [], ◌∷◌, Some, None, Ok, Err, Result, MatchResult, sym, refl, ap, ◌∙◌, subst, arith}
-use Rattle.std.proofs.lemmas.Bool.{and_from, and_parts, le-leb, lt-ltb, eq-eqb, leb-true, ltb-true}
-use Rattle.std.proofs.lemmas.Bool.Decides.{nat_tests}
+use Rattle.std.proofs.lemmas.Bool.{and_from, le-leb, eq-eqb, leb-true}
+use Rattle.std.proofs.lemmas.Bool.Decides.{nat_tests, Decides-and, Decides-like, Decides-ltb}
 use Rattle.std.proofs.lemmas.Str.{IsUtf8-from_ascii}
 use Rattle.std.proofs.lemmas.Str.Parse.{without_leading_plus_none}
-use Rattle.std.specs.Bool.{then_some}
+use Rattle.std.specs.Bool.{then_some, Decides}
 use Rattle.std.specs.Char.{digit_value}
 use Rattle.std.specs.List.{starts_with}
 use Rattle.std.specs.Result.{result_ok}
 use Rattle.std.specs.Str.Parse.{AllDigits, IsNumeral, digits_value, without_leading_plus, ParsesUnsigned}
 use Rattle.std.specs.Str.{IsUtf8, IsAscii}
-use Rattle.tokens.specs.Numbers.{all_digits, reading_of}
+use Rattle.tokens.specs.Numbers.{all_digits, numeral, reading_of}
 
-digits_test : (base : ℕ) (bs : List ℕ) → AllDigits base bs → all_digits base bs ≡ true
-digits_test base [] digits = refl
-digits_test base (b ∷ bs) (digit, digits) = and_from _ _ (lt-ltb (digit_value b) base digit) (digits_test base bs digits)
+digits_decide : (base : ℕ) (bs : List ℕ) → Decides (all_digits base bs) (AllDigits base bs)
+digits_decide base [] = ((λ _. tt), (λ _. refl))
+digits_decide base (b ∷ bs) = Decides-and (ltb (digit_value b) base) (all_digits base bs) (Decides-ltb (digit_value b) base) (digits_decide base bs)
 
-digits_from_test : (base : ℕ) (bs : List ℕ) → all_digits base bs ≡ true → AllDigits base bs
-digits_from_test base [] is = tt
-digits_from_test base (b ∷ bs) is =
-    let (first, rest) = and_parts (ltb (digit_value b) base) (all_digits base bs) is in
-    (ltb-true (digit_value b) base first, digits_from_test base bs rest)
+numeral_decides : (base : ℕ) (bs : List ℕ) → Decides (numeral base bs) (IsNumeral base bs)
+numeral_decides base [] = ((λ is. absurd (cc)), (λ (some, digits). absurd (omega arith)))
+numeral_decides base (b ∷ bs) = Decides-like (all_digits base (b ∷ bs)) (λ digits. (omega arith, digits)) (λ (some, digits). digits) (digits_decide base (b ∷ bs))
+
+read_decides : (base most : ℕ) (bs : List ℕ) → Decides (numeral base bs && leb (digits_value base bs) most) (IsNumeral base bs × (digits_value base bs ≤ most))
+read_decides base most bs = Decides-and (numeral base bs) (leb (digits_value base bs) most) (numeral_decides base bs) (leb-true _ _, le-leb _ _)
 
 -- a numeral up to the limit is read as its value
 pub taken : (base most : ℕ) (bs : List ℕ) → IsNumeral base bs → digits_value base bs ≤ most → reading_of base most bs ≡ Some (digits_value base bs)
-taken base most [] (some, digits) within = absurd (omega arith)
-taken base most (b ∷ bs) (some, digits) within =
-    ap (λ (t : Bool). cond t (Some (digits_value base (b ∷ bs))) None) (and_from _ _ (digits_test base (b ∷ bs) digits) (le-leb _ most within))
+taken base most bs is within = ap (λ (t : Bool). cond t (Some (digits_value base bs)) None) ((read_decides base most bs).1 (is, within))
 
 -- no other word is read
 left : (base most : ℕ) (bs : List ℕ) → (IsNumeral base bs → digits_value base bs ≤ most → ⊥) → reading_of base most bs ≡ None
-left base most [] other = refl
-left base most (b ∷ bs) other = by (all_digits base (b ∷ bs)) (leb (digits_value base (b ∷ bs)) most) refl refl
+left base most bs other = by (numeral base bs && leb (digits_value base bs) most) (read_decides base most bs).0
   where
-    by : (s t : Bool) → all_digits base (b ∷ bs) ≡ s → leb (digits_value base (b ∷ bs)) most ≡ t → cond (s && t) (Some (digits_value base (b ∷ bs))) None ≡ None
-    by true true digits within = absurd (other (omega arith, digits_from_test base (b ∷ bs) digits) (leb-true _ _ within))
-    by true false digits within = refl
-    by false t digits within = refl
+    by : (t : Bool) → (t ≡ true → IsNumeral base bs × (digits_value base bs ≤ most)) → cond t (Some (digits_value base bs)) None ≡ None
+    by true tells = let (is, within) = tells refl in absurd (other is within)
+    by false tells = refl
 
 ascii_digit : (base b : ℕ) → base ≤ 36 → digit_value b < base → b < 128
 ascii_digit base b low digit = grind (arith, nat_tests)

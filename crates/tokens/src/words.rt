@@ -1,7 +1,7 @@
 // Cuts a line of a sheet into its words.
-ghost use Rattle.std.specs.Prelude.{◌≡◌, ℕ, List, ◌++◌, IfOk, OnOk};
+ghost use Rattle.std.specs.Prelude.{◌≡◌, ℕ, List, IfOk};
 ghost use Rattle.std.specs.List.{AllByRecursion};
-ghost use Rattle.tokens.specs.Words.{blank, uncommented, whole, bytes, words_of, Proper, spaced};
+ghost use Rattle.tokens.specs.Words.{blank, uncommented, bytes, words_of, Proper, spaced};
 
 use std::alloc::{AllocError, Global};
 

@@ -1,5 +1,6 @@
 use Rattle.std.proofs.Common.{◌∙◌}
-use Rattle.commands.proofs.Names.{no_keyword, refused}
+use Rattle.commands.proofs.Names.{no_keyword}
+use Rattle.tokens.proofs.Readings.{refused}
 use Rattle.commands.proofs.keyword.keyword_of.Goals as goal
 
 pub returns-in_err-word : goal.returns-in_err-word
