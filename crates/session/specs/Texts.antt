@@ -12,24 +12,14 @@ use Rattle.session.specs.declared.answer.Due.{Due}
 use Rattle.session.specs.declared.answer.Due.TheVariants.{Table, FewCells}
 use Rattle.session.specs.declared.answer.Misplaced.{Misplaced}
 use Rattle.session.specs.declared.answer.Misplaced.TheVariants.{NoPlan, NoTable, NoFiled, TooMany, NoArrows, NoDraw, NotFiled}
-use Rattle.session.specs.declared.text.Style.{Style}
-use Rattle.session.specs.declared.text.Style.TheVariants.{Plain, Dashed}
 
--- a number of a list; as a port, 65535 is the root's and is written `-`
-abbrev pub number_word : Style → ℕ → List ℕ
-number_word Plain x = decimal x
-number_word Dashed x = cond (x == 65535) (codes "-") (decimal x)
-
--- a number behind a space
-abbrev pub spaced_number : Style → ℕ → List ℕ
-spaced_number style x = codes " " ++ number_word style x
-
-abbrev pub spaced_numbers : Style → List ℕ → List ℕ
-spaced_numbers style xs = flat_map (spaced_number style) xs
+-- a port; 65535 is the root's and is written `-`
+abbrev pub port_word : ℕ → List ℕ
+port_word x = cond (x == 65535) (codes "-") (decimal x)
 
 -- a line with a list of numbers behind its first word
-abbrev pub list_text : List ℕ → Style → List ℕ → List ℕ
-list_text word style xs = word ++ (spaced_numbers style xs ++ codes "\n")
+abbrev pub list_text : List ℕ → (ℕ → List ℕ) → List ℕ → List ℕ
+list_text word shown xs = word ++ (flat_map (λ x. codes " " ++ shown x) xs ++ codes "\n")
 
 -- the record of a popped cycle as a line
 abbrev pub record_text : Pop → List ℕ
@@ -81,11 +71,11 @@ answer_text (says.seeded s d) = codes "arrows seeded " ++ (seed_text s ++ (codes
 answer_text (says.begun n r) = codes "opened " ++ (decimal n ++ (codes " root " ++ (decimal r ++ codes "\n")))
 answer_text (says.tried t) = tried_words t ++ codes "\n"
 answer_text (says.ran tries why) = codes "ran " ++ (decimal tries ++ (codes " " ++ (stop_word why ++ codes "\n")))
-answer_text (says.heights hs) = list_text (codes "heights") Plain hs
-answer_text (says.open_vertices vs) = list_text (codes "open") Plain vs
+answer_text (says.heights hs) = list_text (codes "heights") decimal hs
+answer_text (says.open_vertices vs) = list_text (codes "open") decimal vs
 answer_text (says.records ps) = records_text ps
-answer_text (says.tree ports) = list_text (codes "tree") Dashed ports
-answer_text (says.cells ports) = list_text (codes "cells") Plain ports
+answer_text (says.tree ports) = list_text (codes "tree") port_word ports
+answer_text (says.cells ports) = list_text (codes "cells") decimal ports
 answer_text (says.commands scope) = commands_text scope
 
 -- what is wrong with a line, by its number

@@ -1,8 +1,8 @@
 // How answers are worded.
-ghost use Rattle.std.specs.Prelude.{◌≡◌, Some};
+ghost use Rattle.std.specs.Prelude.{◌≡◌, ℕ, List, Some};
 ghost use Rattle.std.specs.Fmt.{WritesOnOk};
 ghost use Rattle.session.specs.Said.{said};
-ghost use Rattle.session.specs.Texts.{number_word, list_text, records_text, commands_text, answer_text, misplaced_word, due_text};
+ghost use Rattle.session.specs.Texts.{port_word, list_text, records_text, commands_text, answer_text, misplaced_word, due_text};
 
 use crate::answer::{Answer, Due, Misplaced};
 use commands::scope::Scope;
@@ -47,41 +47,34 @@ fn commands<W: fmt::Write>(f: &mut fmt::Formatter<W>, scope: Scope) -> fmt::Resu
     }
 }
 
-// How the numbers of a list are written.
+// A port of a tree, with `-` for the root's.
 #[derive(Clone, Copy)]
-enum Style {
-    Plain,
-    // With `-` for 65535, which stands for the root's port.
-    Dashed,
-}
+struct Port(u16);
 
-// A number of a list.
-#[derive(Clone, Copy)]
-struct Number(u16, Style);
-
-impl fmt::Display for Number {
-    ghost output = { λ n. Some (number_word n.1 n.0) };
+impl fmt::Display for Port {
+    ghost output = { λ p. Some (port_word p.0) };
 
     fn fmt<W: fmt::Write>(&self, f: &mut fmt::Formatter<W>) -> fmt::Result {
         match self {
-            Number(u16::MAX, Style::Dashed) => f.write_str("-"),
-            Number(x, _) => write!(f, "{x}"),
+            Port(u16::MAX) => f.write_str("-"),
+            Port(x) => write!(f, "{x}"),
         }
     }
 }
 
 // The word, and each number behind a space.
-fn list<W: fmt::Write>(
+fn list<W: fmt::Write, D: fmt::Display + Drop, F: Fn(u16) -> D>(
     f: &mut fmt::Formatter<W>,
     word: &str,
-    style: Style,
     numbers: &[u16],
+    shown: F,
 ) -> fmt::Result
-    ensures { WritesOnOk W.write_str_gives f.old result (list_text word.now style numbers.now) f.new }
+    requires { F.IsAlwaysCallable shown }
+    ensures { (text : ℕ → List ℕ) → ((x : ℕ) (d : D) → F.post shown x d → D.output d ≡ Some (text x)) → WritesOnOk W.write_str_gives f.old result (list_text word.now text numbers.now) f.new }
 {
     f.write_str(word)?;
     for x in numbers {
-        write!(f, " {}", Number(*x, style))?;
+        write!(f, " {}", shown(*x))?;
     }
     f.write_str("\n")
 }
@@ -112,11 +105,11 @@ impl fmt::Display for Answer {
             Answer::Opened { size, root } => write!(f, "opened {size} root {root}\n"),
             Answer::Tried(tried) => write!(f, "{tried}\n"),
             Answer::Ran { tries, stop } => write!(f, "ran {tries} {stop}\n"),
-            Answer::Heights(heights) => list(f, "heights", Style::Plain, heights.as_slice()),
-            Answer::Open(vertices) => list(f, "open", Style::Plain, vertices.as_slice()),
+            Answer::Heights(heights) => list(f, "heights", heights.as_slice(), |x| x),
+            Answer::Open(vertices) => list(f, "open", vertices.as_slice(), |x| x),
             Answer::Records(pops) => records(f, pops.as_slice()),
-            Answer::Tree(ports) => list(f, "tree", Style::Dashed, ports.as_slice()),
-            Answer::Cells(ports) => list(f, "cells", Style::Plain, ports.as_slice()),
+            Answer::Tree(ports) => list(f, "tree", ports.as_slice(), |x| Port(x)),
+            Answer::Cells(ports) => list(f, "cells", ports.as_slice(), |x| x),
             Answer::Commands { scope } => commands(f, *scope),
         }
     }
