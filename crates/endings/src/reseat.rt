@@ -13,7 +13,6 @@ use draws::draw::Draw;
 use model::fault::DrawFault;
 use model::plan::Plan;
 use model::tree::TreeCheck;
-use sources::depth::check_cells;
 use sources::filed::Filed;
 use sources::listing::Listing;
 use trees::check::check_tree;
@@ -38,7 +37,7 @@ impl<'a, P: Plan> Seats<'a, P> {
         ensures { result ≡ answered (room_fault (P.layout self.now.plan.now).size self.now.depth (length cells.now) (length self.now.ports.now)) tt }
     {
         let listing = self.listing();
-        check_cells(listing.size, listing.depth)?;
+        listing.check()?;
         if cells.len() < listing.count() || self.ports.len() < listing.size as usize {
             return Err(DrawFault::Short);
         }

@@ -2,7 +2,7 @@
 use model::fault::DrawFault;
 use model::source::ArrowSource;
 use sources::cap::Cap;
-use sources::depth::{check_cells, check_depth};
+use sources::depth::check_depth;
 use sources::filed::Filed;
 use sources::listing::Listing;
 use sources::seeded::Seeded;
@@ -66,7 +66,16 @@ fn depth_limits(rt: HostRuntime) {
         (1024, 4, None),
         (1024, 5, Some(DrawFault::Limit)),
     ] {
-        assert_eq!(rt; check_cells(size, depth).err(), fault);
+        assert_eq!(rt;
+            Listing {
+                size,
+                root: 0,
+                depth
+            }
+            .check()
+            .err(),
+            fault
+        );
     }
     assert_eq!(rt; check_depth(4096), Ok(()));
 }

@@ -1,10 +1,14 @@
 // Where the port of a vertex and an index stands in a list.
 ghost use Rattle.std.specs.Prelude.{◌≡◌};
-ghost use Rattle.model.specs.Depths.{cells_to};
+ghost use Rattle.model.specs.Answers.{answered};
+ghost use Rattle.model.specs.Depths.{cells_to, cells_fit, cells_fault};
 ghost use Rattle.model.specs.Filed.{lacks_cell, place, rank};
 
-use crate::depth::cell_count;
+use crate::depth::{depth_fits, limit_unless};
+use model::fault::DrawFault;
 use model::plan::Plan;
+
+const MOST_CELLS: usize = 4096;
 
 // How cells are listed: by rising vertex without the root, then by rising index, down to the depth.
 #[derive(Clone, Copy, PartialEq, Eq, Debug)]
@@ -26,11 +30,24 @@ impl Listing {
         }
     }
 
-    // How many cells there are.
+    // How many cells there are. Saturating, since it is defined for the size 0 too.
     pub fn count(&self) -> usize
         ensures { result ≡ cells_to self.now.size self.now.depth }
     {
-        cell_count(self.size, self.depth)
+        self.size.saturating_sub(1) as usize * self.depth as usize
+    }
+
+    fn fits(&self) -> bool
+        ensures { result ≡ cells_fit self.now.size self.now.depth }
+    {
+        depth_fits(self.depth) && self.count() <= MOST_CELLS
+    }
+
+    // The depth is within its limits, and the cells are at most 4,096.
+    pub fn check(&self) -> Result<(), DrawFault>
+        ensures { result ≡ answered (cells_fault self.now.size self.now.depth) tt }
+    {
+        limit_unless(self.fits())
     }
 
     // How many vertices other than the root are below `v`. Saturating, since it is defined for the root 0 too.

@@ -41,8 +41,7 @@ impl Table {
     {
         check_limits(size, root)?;
         let links = Vec::with_capacity(heap, MAX_LINKS)?;
-        let mut spans = Vec::new(heap);
-        spans.resize(size as usize, NO_SPAN)?;
+        let spans = vec![in heap; NO_SPAN; size as usize]?;
         Ok(Table {
             size,
             root,

@@ -10,7 +10,6 @@ use crate::hall::{Hall, Pending};
 use model::fault::DrawFault;
 use model::plan::Plan;
 use sources::any::AnyArrows;
-use sources::depth::check_cells;
 use sources::filed::Filed;
 use sources::listing::Listing;
 
@@ -63,8 +62,9 @@ impl Session {
         let Hall::Planned(plan, pending @ None) = &mut self.hall else {
             return Err(Misplaced::NoPlan.into());
         };
-        check_cells(plan.size(), depth)?;
-        if Listing::of(plan, depth).count() < ports.len() {
+        let listing = Listing::of(plan, depth);
+        listing.check()?;
+        if listing.count() < ports.len() {
             return Err(Misplaced::TooMany.into());
         }
         *pending = Some(Pending { line, depth, ports });
