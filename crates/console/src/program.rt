@@ -1,6 +1,7 @@
 // Reads a sheet and writes its answers.
-ghost use Rattle.std.specs.Prelude.{◌≡◌, ◌≤◌, if◌then◌else◌};
+ghost use Rattle.std.specs.Prelude.{◌≡◌, ◌≤◌, if◌then◌else◌, IfOk};
 ghost use Rattle.std.specs.Process.{exit_status};
+ghost use Rattle.sheet.specs.Sheets.{closed, sheet_of, went_well};
 
 use commands::scope::Scope;
 use sheet::whole::Sheet;
@@ -10,7 +11,9 @@ use std::io::{BufRead, BufReader};
 use std::process::ExitCode;
 
 // Writes what is still due, and says how the sheet went.
-fn end(rt: &HostRuntime, heap: Global, mut sheet: Sheet, strict: bool) -> anyhow::Result<bool> {
+fn end(rt: &HostRuntime, heap: Global, mut sheet: Sheet, strict: bool) -> anyhow::Result<bool>
+    ensures { IfOk result (λ well. well ≡ went_well strict (closed (sheet_of sheet))) }
+{
     rt.print(sheet.end(heap)?.as_str())?;
     Ok(sheet.went_well(strict))
 }
