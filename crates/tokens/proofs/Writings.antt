@@ -49,7 +49,7 @@ seed_text_is n small =
     (cases_eq n 0)
 
 -- a seed as it is written is read back
-pub seed_back : (n : ℕ) → n < 2 ^ 64 → seed_of (digits 16 false n) ≡ Some n
+pub seed_back : (n : ℕ) → n < 2 ^ 64 → seed_of (seed_text n) ≡ Some n
 seed_back n small =
     let back = digits_is_IsNumeral 16 false (omega arith) (omega arith) n (omega arith) in
-    taken 16 (2 ^ 64 - 1) (digits 16 false n) back.0 (omega (arith, back.1)) ∙ ap Some back.1
+    ap seed_of (sym (seed_text_is n small)) ∙ taken 16 (2 ^ 64 - 1) (digits 16 false n) back.0 (omega (arith, back.1)) ∙ ap Some back.1

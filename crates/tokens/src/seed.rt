@@ -15,15 +15,15 @@ pub fn seed(word: &[u8]) -> Option<u64>
 }
 
 // The seed in hexadecimal, in lower case and without leading zeros; `seed` reads it back.
-#[tactic(auto, using(crate::proofs::Writings::seed_text_is, crate::proofs::Writings::seed_back))]
+#[tactic(auto, using(crate::proofs::Writings::seed_back))]
 pub fn seed_text(heap: Global, seed: u64) -> Result<String, AllocError>
     ensures is { IfOk result (λ s. string_bytes s ≡ seed_text seed) }
     ensures back { IfOk result (λ s. seed_of (string_bytes s) ≡ Some seed) }
 {
-    format!(in heap; "{seed:x}")
+    format!(in heap; "{}", HexSeed(seed))
 }
 
-// A seed as a sheet writes it: in hexadecimal, in lower case and without leading zeros.
+// A seed as a sheet writes it: in hexadecimal, in lower case and without leading zeros; `seed` reads it back.
 #[derive(Clone, Copy, PartialEq, Eq, Debug)]
 pub struct HexSeed(pub u64);
 
@@ -35,9 +35,10 @@ impl fmt::Display for HexSeed {
     }
 }
 
-#[tactic(auto, using(crate::proofs::Writings::seed_text_is))]
+#[tactic(auto, using(crate::proofs::Writings::seed_text_is, crate::proofs::Writings::seed_back))]
 fn write_hex<W: fmt::Write>(f: &mut fmt::Formatter<W>, seed: u64) -> fmt::Result
-    ensures { WritesOnOk W.write_str_gives f.old result (seed_text seed) f.new }
+    ensures is { WritesOnOk W.write_str_gives f.old result (seed_text seed) f.new }
+    ensures back { seed_of (seed_text seed) ≡ Some seed }
 {
     write!(f, "{seed:x}")
 }
