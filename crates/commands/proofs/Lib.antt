@@ -1,2 +1,3 @@
 mod Askings
+pub mod Halls
 mod Names

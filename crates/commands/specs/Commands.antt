@@ -1,5 +1,5 @@
 -- What a line's words ask for. Assumes nothing.
-use Rattle.std.specs.Prelude.{ℕ, cond, List, [], ◌∷◌, Some, None, Ok, Err, codes, Option, Result}
+use Rattle.std.specs.Prelude.{ℕ, Bool, true, false, cond, List, [], ◌∷◌, Some, None, Ok, Err, codes, Option, Result}
 use Rattle.std.specs.Option.{option_or}
 use Rattle.std.specs.Str.{bytes_eq}
 use Rattle.commands.specs.Args.{and_then, or_mistake, small_of, port_of, list_of, pair_of, single_of, two_of, around_of}
@@ -162,3 +162,33 @@ further_of scope (Some keyword.Help) ws = alone_of (help scope) ws
 abbrev pub command_of : Scope → List (List ℕ) → Result Asked Mistake
 command_of scope [] = Err Unknown
 command_of scope (w ∷ ws) = further_of scope (keyword_of scope w) ws
+
+-- ---- the commands on halls
+
+-- whether it is a command on plans and trees, or `help`
+abbrev pub on_halls : Asked → Bool
+on_halls (complete n r) = true
+on_halls (table n r) = true
+on_halls (link a b) = true
+on_halls (check ports) = true
+on_halls (filed depth ports) = false
+on_halls (cells ports) = false
+on_halls (seeded s depth) = false
+on_halls (room k) = false
+on_halls begin = false
+on_halls walk = false
+on_halls (listed vertices) = false
+on_halls (try_at v) = false
+on_halls step = false
+on_halls (run budget) = false
+on_halls heights = false
+on_halls open_vertices = false
+on_halls records = false
+on_halls tree = false
+on_halls (reseat ports) = false
+on_halls (help scope) = true
+
+-- whether a line that asks for this asks for nothing but halls: a mistake asks for nothing
+abbrev pub asks_halls : Result Asked Mistake → Bool
+asks_halls (Ok c) = on_halls c
+asks_halls (Err m) = true

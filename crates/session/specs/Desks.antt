@@ -78,6 +78,19 @@ pub record Desk : Type 0 where
 abbrev pub bare : Desk
 bare = record { place = empty; arrows = None; drawing = None; room = 4096 }
 
+abbrev pub takes_cells : Place → Bool
+takes_cells empty = false
+takes_cells (linking c) = false
+takes_cells (filing p q) = true
+takes_cells (ready p) = false
+
+-- a hall alone: no filed arrows that lack cells, no arrows and no draw
+abbrev pub hall_alone : Place → Option Arrowed → Option Drawing → Bool
+hall_alone x a y = cond (takes_cells x) false (cond (is_some a) false (not (is_some y)))
+
+abbrev pub has_hall_alone : Desk → Bool
+has_hall_alone d = hall_alone d.place d.arrows d.drawing
+
 -- ---- what the code has
 
 abbrev pub planned_of : AnyPlan → Planned
@@ -121,12 +134,6 @@ takes_links empty = false
 takes_links (linking c) = true
 takes_links (filing p q) = false
 takes_links (ready p) = false
-
-abbrev pub takes_cells : Place → Bool
-takes_cells empty = false
-takes_cells (linking c) = false
-takes_cells (filing p q) = true
-takes_cells (ready p) = false
 
 -- whether the command goes on with what is under way: a link of a table, or cells of filed arrows
 abbrev pub goes_on : commands.Asked → Place → Bool
