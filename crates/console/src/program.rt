@@ -10,16 +10,29 @@ use std::env;
 use std::io::{BufRead, BufReader};
 use std::process::ExitCode;
 
-// Writes what is still due, and says how the sheet went.
-fn end(rt: &HostRuntime, heap: Global, mut sheet: Sheet, strict: bool) -> anyhow::Result<bool>
-    ensures { IfOk result (λ well. well ≡ went_well strict (closed (sheet_of sheet))) }
+// What went wrong stands among the answers.
+fn status(well: bool) -> ExitCode
+    ensures { exit_status result ≡ (if well then 0 else 1) }
 {
-    rt.print(sheet.end(heap)?.as_str())?;
-    Ok(sheet.went_well(strict))
+    if well {
+        ExitCode::SUCCESS
+    } else {
+        ExitCode::FAILURE
+    }
 }
 
-// Does the lines of standard input as they come, and says whether none was bad.
-fn do_sheet(rt: &HostRuntime, heap: Global, scope: Scope) -> anyhow::Result<bool> {
+// Writes what is still due. The status says how the sheet went.
+fn end(rt: &HostRuntime, heap: Global, mut sheet: Sheet, strict: bool) -> anyhow::Result<ExitCode>
+    ensures { IfOk result (λ code. exit_status code ≡ (if went_well strict (closed (sheet_of sheet)) then 0 else 1)) }
+{
+    rt.print(sheet.end(heap)?.as_str())?;
+    Ok(status(sheet.went_well(strict)))
+}
+
+// Does the lines of standard input as they come. The status says whether none was bad.
+fn do_sheet(rt: &HostRuntime, heap: Global, scope: Scope) -> anyhow::Result<ExitCode>
+    ensures { IfOk result (λ code. exit_status code ≤ 1) }
+{
     let mut sheet = Sheet::new(scope);
     for line in BufReader::new(heap, rt.stdin())?.split(heap, b'\n') {
         rt.print(sheet.line(heap, line?.as_slice())?.as_str())?;
@@ -27,8 +40,10 @@ fn do_sheet(rt: &HostRuntime, heap: Global, scope: Scope) -> anyhow::Result<bool
     end(rt, heap, sheet, false)
 }
 
-// Does a single command, and says whether it was done.
-fn do_command(rt: &HostRuntime, heap: Global, scope: Scope, line: &[u8]) -> anyhow::Result<bool> {
+// Does a single command. The status says whether it was done.
+fn do_command(rt: &HostRuntime, heap: Global, scope: Scope, line: &[u8]) -> anyhow::Result<ExitCode>
+    ensures { IfOk result (λ code. exit_status code ≤ 1) }
+{
     let mut sheet = Sheet::new(scope);
     rt.print(sheet.line(heap, line)?.as_str())?;
     end(rt, heap, sheet, true)
@@ -44,7 +59,9 @@ fn given_line(rt: &HostRuntime, heap: Global) -> anyhow::Result<String> {
     Ok(line)
 }
 
-fn went_well(rt: &HostRuntime, scope: Scope) -> anyhow::Result<bool> {
+fn done(rt: &HostRuntime, scope: Scope) -> anyhow::Result<ExitCode>
+    ensures { IfOk result (λ code. exit_status code ≤ 1) }
+{
     let heap = rt.alloc();
     let line = given_line(rt, heap)?;
     if line.is_empty() {
@@ -54,24 +71,13 @@ fn went_well(rt: &HostRuntime, scope: Scope) -> anyhow::Result<bool> {
     }
 }
 
-// What went wrong stands among the answers.
-fn status(well: bool) -> ExitCode
-    ensures { exit_status result ≡ (if well then 0 else 1) }
-{
-    if well {
-        ExitCode::SUCCESS
-    } else {
-        ExitCode::FAILURE
-    }
-}
-
 // Does the command on the command line, or where there is none the sheet on standard input.
 // An error is told under the program's name.
 pub fn run(rt: &HostRuntime, scope: Scope, program: &str) -> ExitCode
     ensures { exit_status result ≤ 1 }
 {
-    match went_well(rt, scope) {
-        Ok(well) => status(well),
+    match done(rt, scope) {
+        Ok(code) => code,
         Err(e) => {
             // Where not even this can be written, the status alone tells it.
             let _ = eprintln!(rt; "{program}: {e}");
