@@ -1,16 +1,15 @@
--- A word is read as the library reads it. Assumes nothing.
-use Rattle.std.proofs.Common.{◌≡◌, ℕ, zero, suc, ◌^◌, ◌<◌, ◌≤◌, Bool, true, false, cond, ◌&&◌, eqb, ltb, leb, List, [], ◌∷◌, Some, None, Ok, Err, Result, MatchResult, sym, refl, ap, ◌∙◌, subst, arith}
-use Rattle.std.proofs.lemmas.Bool.{and_from, le-leb, eq-eqb, leb-true}
-use Rattle.std.proofs.lemmas.Bool.Decides.{nat_tests, Decides-and, Decides-like, Decides-ltb}
-use Rattle.std.proofs.lemmas.Str.{IsUtf8-from_ascii}
-use Rattle.std.proofs.lemmas.Str.Parse.{without_leading_plus_none}
-use Rattle.std.specs.Bool.{then_some, Decides}
+-- One digit after another gives the number of a word, and a numeral is read as its value. Assumes nothing.
+use Rattle.std.proofs.Common.{◌≡◌, ℕ, ◌+◌, ◌*◌, ◌<◌, ◌≤◌, Bool, true, false, cond, ◌&&◌, ltb, leb, List, [], ◌∷◌, length, get_or, drop, Some, None, Ok, Err, Option, Result, MatchResult, sym, refl, ap, ◌∙◌, le-mul_of_pos_right, arith}
+use Rattle.std.proofs.lemmas.Bool.{and_right, le-leb, lt-leb, lt-ltb, le-ltb, leb-true}
+use Rattle.std.proofs.lemmas.Bool.Decides.{Decides-and, Decides-like, Decides-ltb}
+use Rattle.std.proofs.lemmas.List.{at_drop_more, at_drop_all}
+use Rattle.std.specs.Bool.{Decides}
 use Rattle.std.specs.Char.{digit_value}
-use Rattle.std.specs.List.{starts_with}
 use Rattle.std.specs.Result.{result_ok}
-use Rattle.std.specs.Str.Parse.{AllDigits, IsNumeral, digits_value, without_leading_plus, ParsesUnsigned}
-use Rattle.std.specs.Str.{IsUtf8, IsAscii}
+use Rattle.std.specs.Str.Parse.{AllDigits, IsNumeral, digits_value, digits_value_after}
 use Rattle.tokens.specs.Numbers.{all_digits, numeral, reading_of}
+
+-- ---- a numeral
 
 digits_decide : (base : ℕ) (bs : List ℕ) → Decides (all_digits base bs) (AllDigits base bs)
 digits_decide base [] = ((λ _. tt), (λ _. refl))
@@ -27,53 +26,53 @@ read_decides base most bs = Decides-and (numeral base bs) (leb (digits_value bas
 pub taken : (base most : ℕ) (bs : List ℕ) → IsNumeral base bs → digits_value base bs ≤ most → reading_of base most bs ≡ Some (digits_value base bs)
 taken base most bs is within = ap (λ (t : Bool). cond t (Some (digits_value base bs)) None) ((read_decides base most bs).1 (is, within))
 
--- no other word is read
-left : (base most : ℕ) (bs : List ℕ) → (IsNumeral base bs → digits_value base bs ≤ most → ⊥) → reading_of base most bs ≡ None
-left base most bs other = by (numeral base bs && leb (digits_value base bs) most) (read_decides base most bs).0
-  where
-    by : (t : Bool) → (t ≡ true → IsNumeral base bs × (digits_value base bs ≤ most)) → cond t (Some (digits_value base bs)) None ≡ None
-    by true tells = let (is, within) = tells refl in absurd (other is within)
-    by false tells = refl
+-- ---- digit by digit
 
-ascii_digit : (base b : ℕ) → base ≤ 36 → digit_value b < base → b < 128
-ascii_digit base b low digit = grind (arith, nat_tests)
+-- the number of a word where n is what its digits so far write
+abbrev pub reading_after : ℕ → ℕ → ℕ → List ℕ → Option ℕ
+reading_after base n most bs = cond (all_digits base bs && leb (digits_value_after base n bs) most) (Some (digits_value_after base n bs)) None
 
-ascii : (base : ℕ) (bs : List ℕ) → base ≤ 36 → AllDigits base bs → IsAscii bs
-ascii base [] low digits i = omega arith
-ascii base (b ∷ bs) low (digit, digits) zero = ascii_digit base b low digit
-ascii base (b ∷ bs) low (digit, digits) (suc i) = ascii base bs low digits i
+pub from_start : (base most : ℕ) (bs : List ℕ) → (length bs ≡ 0 → ⊥) → reading_after base 0 most bs ≡ reading_of base most bs
+from_start base most [] some = absurd (some refl)
+from_start base most (b ∷ bs) some = refl
 
-plain : (bs : List ℕ) → false ≡ starts_with eqb bs (43 ∷ []) → without_leading_plus bs ≡ bs
-plain [] other = refl
-plain (b ∷ bs) other = without_leading_plus_none (b ∷ bs) (λ (plus : b ≡ 43). absurd (let e : starts_with eqb (b ∷ bs) (43 ∷ []) ≡ true = and_from _ _ (eq-eqb 43 b (sym plus)) refl in cc))
+-- the word where its first byte is a digit or not, and n is what the digits up to it write
+abbrev with_first : Bool → ℕ → ℕ → ℕ → List ℕ → Option ℕ
+with_first digit base n most rest = cond ((digit && all_digits base rest) && leb (digits_value_after base n rest) most) (Some (digits_value_after base n rest)) None
 
--- a numeral, where it is within the limit
-bounded : (base most : ℕ) (bs : List ℕ) (t : Bool) → t ≡ leb (digits_value base bs) most → IsNumeral base bs → then_some t (digits_value base bs) ≡ reading_of base most bs
-bounded base most bs true test is = sym (taken base most bs is (leb-true _ _ (sym test)))
-bounded base most bs false test is = sym (left base most bs (λ _ within. absurd (let e = le-leb (digits_value base bs) most within in cc)))
+-- the byte at i of the word, and its code as a character
+module _ (base n most i : ℕ) (w : List ℕ) (code : ℕ) (within : i < length w) (at : code ≡ get_or w i 0) where
+  opened : (t : Bool) → t ≡ ltb (digit_value code) base → with_first t base (n * base + digit_value code) most (drop (i + 1) w) ≡ reading_after base n most (drop i w)
+  opened t is =
+      ap (λ (d : Bool). with_first d base (n * base + digit_value code) most (drop (i + 1) w)) is
+      ∙ ap (λ (k : ℕ). with_first (ltb (digit_value k) base) base (n * base + digit_value k) most (drop (i + 1) w)) at
+      ∙ sym (at_drop_more (reading_after base n most) w i 0 within)
 
--- bytes that are no text are not read
-pub no_text : (base most : ℕ) (bs : List ℕ) → base ≤ 36 → (IsUtf8 bs → ⊥) → None ≡ reading_of base most bs
-no_text base most bs low other = sym (left base most bs (λ is within. other (IsUtf8-from_ascii bs (ascii base bs low is.1))))
+  -- a digit is taken in
+  pub one_digit : (v d : ℕ) → (digit_value code < base) × (d ≡ digit_value code) → v ≡ n * base + d → reading_after base v most (drop (i + 1) w) ≡ reading_after base n most (drop i w)
+  one_digit v d (digit, is) all =
+      ap (λ (k : ℕ). reading_after base k most (drop (i + 1) w)) (all ∙ ap (λ (k : ℕ). n * base + k) is)
+      ∙ opened true (sym (lt-ltb _ base digit))
+
+  -- a byte that is no digit spoils the word
+  pub no_digit : (digit_value code < base → ⊥) → None ≡ reading_after base n most (drop i w)
+  no_digit other = opened false (sym (le-ltb _ base (omega arith)))
+
+pub at_end : (base n most i : ℕ) (w : List ℕ) → n ≤ most → length w ≤ i → Some n ≡ reading_after base n most (drop i w)
+at_end base n most i w within past =
+    ap (λ (d : Bool). cond d (Some n) None) (sym (le-leb n most within)) ∙ sym (at_drop_all (reading_after base n most) w i past)
+
+grows : (base n : ℕ) (bs : List ℕ) → 0 < base → n ≤ digits_value_after base n bs
+grows base n [] some = omega arith
+grows base n (b ∷ bs) some = omega (arith, le-mul_of_pos_right {m = base} n some, grows base (n * base + digit_value b) bs some)
+
+pub too_large : (base n most : ℕ) (bs : List ℕ) → 0 < base → most < n → reading_after base n most bs ≡ None
+too_large base n most bs some above =
+    ap (λ (d : Bool). cond d (Some (digits_value_after base n bs)) None) (and_right _ _ (lt-leb (digits_value_after base n bs) most (omega (arith, grows base n bs some))))
+
+-- ---- texts
 
 -- what a clause says of a result that was passed on as an option
 pub refused : {X E : Type 0} (r : Result X E) (P : X → Type 0) (Q : E → Type 0) → MatchResult r P Q → None ≡ result_ok r → (e : E) × Q e
 refused (Ok x) P Q h none = absurd (cc)
 refused (Err e) P Q h none = (e, h)
-
-pub accepted : {X E : Type 0} (r : Result X E) (x : X) (P : X → Type 0) (Q : E → Type 0) → MatchResult r P Q → Some x ≡ result_ok r → P x
-accepted (Ok y) x P Q h some = let same : y ≡ x = cc in subst P same h
-accepted (Err e) x P Q h some = absurd (cc)
-
--- no number was read from a text with no sign
-pub no_number : {E : Type 0} (base most : ℕ) (bs : List ℕ) (r : Result ℕ E) → most < 2 ^ 64 → false ≡ starts_with eqb bs (43 ∷ []) → ParsesUnsigned 64 base bs r → None ≡ result_ok r → None ≡ reading_of base most bs
-no_number base most bs (Ok n) small signless parses none = absurd (cc)
-no_number base most bs (Err e) small signless not none =
-    sym (left base most _ (λ is within. not (is, omega arith))) ∙ ap (reading_of base most) (plain bs signless)
-
--- a number was read
-pub a_number : {E : Type 0} (base most n : ℕ) (bs : List ℕ) (r : Result ℕ E) → false ≡ starts_with eqb bs (43 ∷ []) → ParsesUnsigned 64 base bs r → Some n ≡ result_ok r → then_some (leb n most) n ≡ reading_of base most bs
-a_number base most n bs (Ok m) signless ((is, below), m_is) some =
-    let n_is : n ≡ digits_value base (without_leading_plus bs) = cc in
-    ap (λ (k : ℕ). then_some (leb k most) k) n_is ∙ bounded base most _ _ refl is ∙ ap (reading_of base most) (plain bs signless)
-a_number base most n bs (Err e) signless not some = absurd (cc)

@@ -1,6 +1,14 @@
 // Reads a word of a sheet as a number.
-ghost use Rattle.std.specs.Prelude.{◌≡◌, ℕ, ◌≤◌, Some, decimal};
+ghost use Rattle.std.specs.Prelude.{◌≡◌, ℕ, ◌+◌, ◌*◌, ◌^◌, ◌<◌, ◌≤◌, Some, decimal};
 ghost use Rattle.tokens.specs.Numbers.{reading_of, number_of};
+
+// The number with one more digit behind it.
+fn one_more(value: u128, base: u32, digit: u32) -> u128
+    requires { (value < 2 ^ 64) × ((digit < base) × (base ≤ 36)) }
+    ensures { result ≡ value * base + digit }
+{
+    value * u128::from(base) + u128::from(digit)
+}
 
 // The number that the digits of `word` write in a base, none where a byte is no digit, where there is no byte,
 // or where the number is above `most`.
@@ -8,13 +16,20 @@ pub(crate) fn reading(word: &[u8], base: u32, most: u64) -> Option<u64>
     requires { (2 ≤ base) × (base ≤ 36) }
     ensures { result ≡ reading_of base most word.now }
 {
-    // A sign is no digit here, though `from_str_radix` allows one.
-    if word.starts_with(b"+") {
+    if word.is_empty() {
         return None;
     }
-    let text = str::from_utf8(word).ok()?;
-    let number = u64::from_str_radix(text, base).ok()?;
-    (number <= most).then_some(number)
+    let limit = u128::from(most);
+    let mut value: u128 = 0;
+    for b in word {
+        let digit = char::from(*b).to_digit(base)?;
+        value = one_more(value, base, digit);
+        // More digits only make it larger.
+        if value > limit {
+            return None;
+        }
+    }
+    Some(value as u64)
 }
 
 // A decimal number up to `most`; as `{}` writes such a number, it is read back.

@@ -1,19 +1,28 @@
-use Rattle.std.proofs.Common.{◌≡◌, arith, ◌∙◌, subst}
-use Rattle.std.specs.Str.Parse.{ParsesUnsigned}
-use Rattle.tokens.proofs.Readings.{no_text, refused, accepted, no_number, a_number}
+use Rattle.std.proofs.Common.{◌+◌, ◌<◌, drop, sym, ◌∙◌, arith}
+use Rattle.std.proofs.lemmas.Bool.{eqb-false}
+use Rattle.tokens.proofs.Readings.{from_start, one_digit, no_digit, too_large, at_end}
 use Rattle.tokens.proofs.number.reading.Goals as goal
 
-pub returns-in_err-text : goal.returns-in_err-text
-returns-in_err-text c = c.from_residual.ensures ∙ no_text _ _ _ c.requires.1 (refused _ _ _ c.from_utf8.ensures.cases c.in_err-text.ensures.value).1.0
+pub loop-b-init : goal.loop-b-init
+loop-b-init c = (omega arith, from_start _ _ _ (eqb-false _ 0 (sym c.if-is_empty.ensures)))
 
-pub returns-in_err-number : goal.returns-in_err-number
-returns-in_err-number c =
-    let same : c.in_ok-text.text.now ≡ c.args.word.now = (accepted _ _ _ _ c.from_utf8.ensures.cases c.in_ok-text.ensures.value).0 in
-    let parses = subst (λ t. ParsesUnsigned 64 c.args.base t c.from_str_radix.result) same c.from_str_radix.ensures.value in
-    c.from_residual-in_err-number.ensures ∙ no_number c.args.base c.args.most c.args.word.now c.from_str_radix.result (omega arith) c.if-starts_with.ensures.value parses c.in_err-number.ensures.value
+pub returns-in_err-digit : goal.returns-in_err-digit
+returns-in_err-digit c =
+    c.from_residual.ensures ∙ no_digit _ c.loop-b.value _ c.loop-b.b-index _ _ c.loop-b-test.true c.from.ensures c.in_err-digit.ensures.value ∙ c.loop-b.invariant.1
+
+pub returns-then-value-limit : goal.returns-then-value-limit
+returns-then-value-limit c =
+    let above : c.args.most < c.one_more-value.result = omega (arith, c.from-limit.ensures) in
+    sym (too_large _ _ _ (drop (c.loop-b.b-index + 1) c.args.word.now) (omega arith) above)
+    ∙ one_digit _ c.loop-b.value _ c.loop-b.b-index _ _ c.loop-b-test.true c.from.ensures _ _ c.in_ok-digit.ensures.value c.one_more-value.ensures
+    ∙ c.loop-b.invariant.1
+
+pub loop-b-preserved : goal.loop-b-preserved
+loop-b-preserved c = (
+  omega (arith, c.from-limit.ensures),
+  one_digit _ c.loop-b.value _ c.loop-b.b-index _ _ c.loop-b-test.true c.from.ensures _ _ c.in_ok-digit.ensures.value c.one_more-value.ensures
+      ∙ c.loop-b.invariant.1,
+)
 
 pub returns : goal.returns
-returns c =
-    let same : c.in_ok-text.text.now ≡ c.args.word.now = (accepted _ _ _ _ c.from_utf8.ensures.cases c.in_ok-text.ensures.value).0 in
-    let parses = subst (λ t. ParsesUnsigned 64 c.args.base t c.from_str_radix.result) same c.from_str_radix.ensures.value in
-    c.then_some.ensures ∙ a_number c.args.base c.args.most _ c.args.word.now c.from_str_radix.result c.if-starts_with.ensures.value parses c.in_ok-number.ensures.value
+returns c = at_end _ _ _ c.loop-b.b-index _ c.loop-b.invariant.0 c.loop-b-test.false ∙ c.loop-b.invariant.1
