@@ -39,8 +39,7 @@ impl<'a, P: Plan, S: ArrowSource> Sight<'a, P, S> {
         self.entries
             .list
             .get(v as usize)
-            .copied()
-            .unwrap_or(NO_ENTRY)
+            .map_or(NO_ENTRY, |entry| *entry)
     }
 
     pub(crate) fn height(&self, v: u16) -> u16

@@ -1,9 +1,8 @@
 // What a draw shows, and the calls that read its end.
-ghost use Rattle.std.specs.Prelude.{◌≡◌, ◌≤◌, ◌⊎◌, not, map, length, filter, Ok, Err, MatchResult};
-ghost use Rattle.std.specs.List.{enumerate_from};
+ghost use Rattle.std.specs.Prelude.{◌≡◌, ◌≤◌, ◌⊎◌, length, Ok, Err, MatchResult};
 ghost use Rattle.model.specs.declared.fault.DrawFault.TheVariants.{NoMemory};
 ghost use Rattle.theory.specs.Reseats.{reseats_to};
-ghost use Rattle.desk.specs.Drawings.{drawing_of, heights_shown, open_shown, records_shown, tree_shown};
+ghost use Rattle.desk.specs.Drawings.{open_among, drawing_of, heights_shown, open_shown, records_shown, tree_shown};
 
 use super::Running;
 use endings::reseat::reseat;
@@ -17,14 +16,15 @@ use std::alloc::Global;
 // The open vertices by their entries, rising.
 fn open_among(entries: &[Entry], heap: Global) -> Result<Vec<u16>, DrawFault>
     requires { length entries.now ≤ 1024 }
-    ensures { MatchResult result (λ l. l.items ≡ map (λ x. x.0) (filter (λ x. not x.1.settled) (enumerate_from 0 entries.now))) (λ e. e ≡ NoMemory) }
+    ensures { MatchResult result (λ l. l.items ≡ open_among 0 entries.now) (λ e. e ≡ NoMemory) }
 {
-    let open = entries
-        .iter()
-        .enumerate()
-        .filter(|(_, entry)| !entry.settled)
-        .map(|(v, _)| v as u16);
-    Ok(open.collect(heap)?)
+    let mut vertices = Vec::new(heap);
+    for (v, entry) in entries.iter().enumerate() {
+        if !entry.settled {
+            vertices.push(v as u16)?;
+        }
+    }
+    Ok(vertices)
 }
 
 impl Running {
@@ -44,11 +44,13 @@ impl Running {
     }
 
     // The records of the popped cycles, in turn.
+    #[tactic(auto, using(crate::proofs::Listing::front_cut))]
     pub fn records(&self, heap: Global) -> Result<Vec<Pop>, DrawFault>
         ensures { MatchResult result (λ l. l.items ≡ records_shown (drawing_of self.now)) (λ e. e ≡ NoMemory) }
     {
-        let records = self.list.iter().take(self.draw.pops()).copied();
-        Ok(records.collect(heap)?)
+        let list = self.list.as_slice();
+        let count = self.draw.pops().min(list.len());
+        Ok(Vec::from_slice(heap, &list[..count])?)
     }
 
     // The tree of the ended draw: one port for each vertex, 65,535 at the root.

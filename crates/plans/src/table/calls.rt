@@ -67,7 +67,7 @@ impl Table {
     fn span(&self, v: u16) -> Span
         ensures { result ≡ span_at self.now.spans.items v }
     {
-        self.spans.get(v as usize).copied().unwrap_or(NO_SPAN)
+        self.spans.get(v as usize).map_or(NO_SPAN, |span| *span)
     }
 
     fn links_from(&self, v: u16) -> &[Link]
