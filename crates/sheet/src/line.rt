@@ -57,6 +57,8 @@ fn answered_text(
     ensures { IfOk result (λ s. string_bytes s ≡ answered_text number (said_so answer.now)) }
 {
     match answer {
+        // Most lines of a table write nothing.
+        Ok(Answer::Silent) => Ok(String::new(heap)),
         Ok(answer) => format!(in heap; "{answer}"),
         Err(Refusal::Misplaced(misplaced)) => format!(in heap; "line {number}: {misplaced}\n"),
         Err(Refusal::Fault(fault)) => format!(in heap; "refused {fault}\n"),
