@@ -29,24 +29,20 @@ fn end(rt: &HostRuntime, heap: Global, mut sheet: Sheet, strict: bool) -> anyhow
     Ok(status(sheet.went_well(strict)))
 }
 
-// Does the lines of standard input as they come. The status says whether none was bad.
-fn do_sheet(rt: &HostRuntime, heap: Global, scope: Scope) -> anyhow::Result<ExitCode>
-    ensures { IfOk result (λ code. exit_status code ≤ 1) }
-{
+// Does the lines of standard input as they come.
+fn do_sheet(rt: &HostRuntime, heap: Global, scope: Scope) -> anyhow::Result<Sheet> {
     let mut sheet = Sheet::new(scope);
     for line in BufReader::new(heap, rt.stdin())?.split(heap, b'\n') {
         rt.print(sheet.line(heap, line?.as_slice())?.as_str())?;
     }
-    end(rt, heap, sheet, false)
+    Ok(sheet)
 }
 
-// Does a single command. The status says whether it was done.
-fn do_command(rt: &HostRuntime, heap: Global, scope: Scope, line: &[u8]) -> anyhow::Result<ExitCode>
-    ensures { IfOk result (λ code. exit_status code ≤ 1) }
-{
+// Does a single command.
+fn do_command(rt: &HostRuntime, heap: Global, scope: Scope, line: &[u8]) -> anyhow::Result<Sheet> {
     let mut sheet = Sheet::new(scope);
     rt.print(sheet.line(heap, line)?.as_str())?;
-    end(rt, heap, sheet, true)
+    Ok(sheet)
 }
 
 // The words of the command line as one line.
@@ -59,15 +55,21 @@ fn given_line(rt: &HostRuntime, heap: Global) -> anyhow::Result<String> {
     Ok(line)
 }
 
+// The status says of a sheet whether no line was bad, and of a single command whether it was done.
 fn done(rt: &HostRuntime, scope: Scope) -> anyhow::Result<ExitCode>
     ensures { IfOk result (λ code. exit_status code ≤ 1) }
 {
     let heap = rt.alloc();
     let line = given_line(rt, heap)?;
     if line.is_empty() {
-        do_sheet(rt, heap, scope)
+        end(rt, heap, do_sheet(rt, heap, scope)?, false)
     } else {
-        do_command(rt, heap, scope, line.as_bytes())
+        end(
+            rt,
+            heap,
+            do_command(rt, heap, scope, line.as_bytes())?,
+            true,
+        )
     }
 }
 
