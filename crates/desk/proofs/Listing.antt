@@ -1,4 +1,4 @@
--- The front of a list, and the open vertices. Assumes nothing.
+-- The front of a list. Assumes nothing.
 use Rattle.std.proofs.Common.{◌≡◌, ℕ, min, List, length, take, sym, ap, ◌∙◌, ⊎_elim, arith}
 use Rattle.std.proofs.lemmas.Bool.{cases_lt}
 use Rattle.std.proofs.lemmas.List.{take_all}

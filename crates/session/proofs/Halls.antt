@@ -7,7 +7,7 @@ use Rattle.desk.specs.Drawings.{Drawing}
 use Rattle.model.specs.declared.fault.DrawFault.{DrawFault}
 use Rattle.plans.specs.Cablings.{unlinked}
 use Rattle.plans.specs.Limits.{plan_fault}
-use Rattle.session.specs.Desks.{Place, empty, linking, filing, ready, Planned, completed, Arrowed, Desk, takes_cells, hall_alone, has_hall_alone, closing, closes, before, goes_on, misplaced_at, unless_fault, new_plan, linking_at, does, Takes}
+use Rattle.session.specs.Desks.{Place, empty, linking, filing, ready, Planned, completed, Arrowed, Desk, hall_alone, has_hall_alone, closing, closes, before, goes_on, misplaced_at, unless_fault, new_plan, linking_at, does, Takes}
 use Rattle.session.specs.Said as said
 use Rattle.session.specs.Said.{Said}
 use Rattle.session.specs.declared.answer.Misplaced.{Misplaced}
@@ -24,16 +24,6 @@ closing_alone (ready p) a y alone = alone
 
 pub closes_alone : (d : Desk) → has_hall_alone d ≡ true → has_hall_alone (closes d).1 ≡ true
 closes_alone d alone = closing_alone d.place d.arrows d.drawing alone
-
-lacks_none : (x : Place) (a : Option Arrowed) (y : Option Drawing) → hall_alone x a y ≡ true → takes_cells x ≡ false
-lacks_none empty a y alone = refl
-lacks_none (linking c) a y alone = refl
-lacks_none (filing p q) a y alone = absurd (both_ways false refl alone)
-lacks_none (ready p) a y alone = refl
-
--- no filed arrows lack cells
-pub no_cells : (d : Desk) → has_hall_alone d ≡ true → takes_cells d.place ≡ false
-no_cells d alone = lacks_none d.place d.arrows d.drawing alone
 
 pub before_alone : (c : Asked) (d : Desk) → has_hall_alone d ≡ true → has_hall_alone (before c d).1 ≡ true
 before_alone c d alone = by (goes_on c d.place)

@@ -1,17 +1,15 @@
 -- A sheet of halls never has more than a hall in hand. Assumes nothing.
-use Rattle.std.proofs.Common.{◌≡◌, ℕ, true, false, List, [], ◌∷◌, Ok, Err, Result, refl, ap, ◌∙◌, subst, inl, inr, MatchResult}
-use Rattle.std.proofs.lemmas.Bool.{both_ways}
+use Rattle.std.proofs.Common.{◌≡◌, ℕ, true, List, [], ◌∷◌, Ok, Err, Result, refl, ap, ◌∙◌, inl, inr, MatchResult}
 use Rattle.commands.proofs.Halls.{halls_ask}
 use Rattle.commands.specs.Commands.{Asked, asks_halls}
 use Rattle.commands.specs.declared.command.Mistake.{Mistake}
 use Rattle.commands.specs.declared.scope.Scope.{Scope}
 use Rattle.commands.specs.declared.scope.Scope.TheVariants.{Halls, Draws}
-use Rattle.session.proofs.Halls.{closes_alone, no_cells, before_alone, takes_alone}
-use Rattle.session.specs.Desks.{Place, empty, linking, filing, ready, Desk, takes_cells, has_hall_alone, closing, closes, before}
-use Rattle.sheet.specs.Lines.{shown, worse, due_outcome, Answered, ByWords, Replied, Untold}
+use Rattle.session.proofs.Halls.{closes_alone, before_alone, takes_alone}
+use Rattle.session.specs.Desks.{Desk, has_hall_alone, closes, before}
+use Rattle.sheet.specs.Lines.{shown, Answered, ByWords, Replied, Untold}
 use Rattle.sheet.specs.Scopes.{within}
 use Rattle.sheet.specs.declared.line.Outcome.{Outcome}
-use Rattle.sheet.specs.declared.line.Outcome.TheVariants.{Fine, Refused, Bad}
 use Rattle.sheet.specs.declared.line.Reply.{Reply}
 use Rattle.tokens.specs.Words.{words_of}
 
@@ -39,18 +37,3 @@ line_within scope d after i line (Err e) untold is = untold_within scope d after
 pub closes_within : (scope : Scope) (d : Desk) → within scope d ≡ true → within scope (closes d).1 ≡ true
 closes_within Halls d is = closes_alone d is
 closes_within Draws d is = refl
-
-due_fine : (x : Place) → takes_cells x ≡ false → due_outcome (closing x).0 ≡ Fine
-due_fine empty none = refl
-due_fine (linking c) none = refl
-due_fine (filing p q) none = absurd (both_ways true none refl)
-due_fine (ready p) none = refl
-
-no_worse : (o : Outcome) → worse o Fine ≡ o
-no_worse Fine = refl
-no_worse Refused = refl
-no_worse Bad = refl
-
--- what is due at the end of a sheet of halls makes it no worse
-pub ends_no_worse : (scope : Scope) (d : Desk) (o : Outcome) → within scope d ≡ true → scope ≡ Halls → worse o (due_outcome (closes d).0) ≡ o
-ends_no_worse scope d o is halls = ap (worse o) (due_fine d.place (no_cells d (subst (λ s. within s d ≡ true) halls is))) ∙ no_worse o

@@ -17,5 +17,5 @@ pub struct Sheet {
     session: Session,
     lines: usize,
     worst: Outcome,
-    ghost within: { within scope (desk_of session) ≡ true },
+    pub ghost within: { within scope (desk_of session) ≡ true },
 }
