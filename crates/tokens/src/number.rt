@@ -32,11 +32,30 @@ pub(crate) fn reading(word: &[u8], base: u32, most: u64) -> Option<u64>
     Some(value as u64)
 }
 
+// The number that the decimal digits of `word` write, as `reading` has it. It is short, and wants no wide numbers on the way.
+fn decimal_reading(word: &[u8], most: u32) -> Option<u32>
+    ensures { result ≡ number_of word.now most }
+{
+    if word.is_empty() {
+        return None;
+    }
+    let limit = u64::from(most);
+    let mut value: u64 = 0;
+    for b in word {
+        let digit = char::from(*b).to_digit(10)?;
+        value = value * 10 + u64::from(digit);
+        if value > limit {
+            return None;
+        }
+    }
+    Some(value as u32)
+}
+
 // A decimal number up to `most`; as `{}` writes such a number, it is read back.
 #[tactic(auto, using(crate::proofs::Writings::number_back))]
 pub fn number(word: &[u8], most: u32) -> Option<u32>
     ensures is { result ≡ number_of word.now most }
     ensures back { (n : ℕ) → n ≤ most → word.now ≡ decimal n → result ≡ Some n }
 {
-    reading(word, 10, u64::from(most)).map(|n| n as u32)
+    decimal_reading(word, most)
 }
